@@ -1,0 +1,4 @@
+pub mod Cells
+pub mod Access
+pub mod Faults
+pub mod Frames

@@ -13,9 +13,9 @@ use Rattle.std.proofs.shelf.Counted.{length-map-counting, getD-map-counting, fi
 use Rattle.std.proofs.shelf.Lists.{ext-getD}
 use Rattle.std.proofs.shelf.Tests.{lt-ltb}
 use Rattle.medium.specs.Cells.{byte, lost}
-use Rattle.volume.specs.Blocks.{blocks, soundAt, volumeCells, cellOf, checkOf, dataAt}
+use Rattle.volume.specs.Blocks.{blocks, readable, soundAt, volumeCells, cellOf, checkOf, dataAt}
 use Rattle.volume.specs.Renewed.{renewed}
-use Rattle.volume.specs.Seen.{readable, verdicts, seen, seenAt, VolumeKept}
+use Rattle.volume.specs.Seen.{verdicts, seen, seenAt, VolumeKept}
 use Rattle.volume.proofs.Volumes as vol
 use Rattle.volume.proofs.Sealing as seal
 

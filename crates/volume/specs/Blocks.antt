@@ -1,10 +1,10 @@
 -- What a reel volume is.
 use Prim.Native.Nat.{ℕ, min, _+_, _*_, _/_, _%_, _≤_, _<_}
 use mathlib.Core.Path.{_≡_}
-use mathlib.Core.Bool.{Bool, cond}
+use mathlib.Core.Bool.{Bool, false, cond}
 use mathlib.Core.List.{List, [], _∷_, map}
 use lib.ListN.{length, getD, take, drop}
-use lib.Dec.{eqb}
+use lib.Dec.{eqb, ltb}
 use Rattle.std.specs.Iters.{counting}
 use Rattle.std.specs.declared.option.Option.{Option}
 use Rattle.std.specs.declared.option.Option.the-variants.{None, Some}
@@ -35,6 +35,10 @@ soundAt bs k = eqb (storedAt bs k) (checkOf (dataAt bs k))
 -- how many blocks count: whole ones, and no more than 2,048
 abbrev pub blocks : List ℕ → ℕ
 blocks bs = min 2048 (length bs / 512)
+
+-- block k counts and is sound
+abbrev pub readable : List ℕ → ℕ → Bool
+readable bs k = cond (ltb k (blocks bs)) (soundAt bs k) false
 
 -- the two checks of block k, where it counts
 abbrev pub BlockAt : List ℕ → ℕ → Option Block → Type 0

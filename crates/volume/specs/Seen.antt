@@ -5,16 +5,11 @@ use mathlib.Core.Bool.{Bool, false, cond}
 use mathlib.Core.List.{List, map}
 use native.Mathlib.Omega.{arith}
 use lib.ListN.{length, getD}
-use lib.Dec.{ltb}
 use Rattle.std.specs.Iters.{counting}
 use Rattle.std.proofs.shelf.Counted.{length-map-counting}
 use Rattle.medium.specs.Cells.{Cell, byte, lost}
 use Rattle.medium.specs.Frames.{Frame}
-use Rattle.volume.specs.Blocks.{blocks, soundAt}
-
--- block k counts and is sound
-abbrev pub readable : List ℕ → ℕ → Bool
-readable bs k = cond (ltb k (blocks bs)) (soundAt bs k) false
+use Rattle.volume.specs.Blocks.{blocks, readable}
 
 -- what an examination of all the checks finds, block by block
 unfoldable pub verdicts : List ℕ → List Bool

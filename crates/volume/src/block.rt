@@ -3,7 +3,7 @@ ghost use lib.Dec.{eqb};
 ghost use lib.ListN.{length};
 ghost use mathlib.Core.Path.{_≡_};
 ghost use Prim.Native.Nat.{_≤_};
-ghost use Rattle.volume.specs.Blocks.{BlockAt, blocks, checkOf};
+ghost use Rattle.volume.specs.Blocks.{BlockAt, blocks, checkOf, readable};
 
 // The bytes of a block.
 pub const BLOCK_BYTES: usize = 512;
@@ -66,4 +66,14 @@ pub fn block_at(bytes: &[u8], k: usize) -> Option<Block>
     let stored = u32::from_be_bytes([bytes[check], bytes[check + 1], bytes[check + 2], bytes[check + 3]]);
     let due = weigh(&bytes[start..check]);
     Some(Block { stored, due })
+}
+
+// Whether block `k` counts and is sound, so that its cells can be read.
+pub fn is_readable(bytes: &[u8], k: usize) -> bool
+    ensures { λ r. ⌜ r ≡ readable (now (bytes .entry)) k ⌝ }
+{
+    match block_at(bytes, k) {
+        Some(block) => block.is_sound(),
+        None => false,
+    }
 }

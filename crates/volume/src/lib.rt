@@ -10,5 +10,6 @@ pub use block::Block;
 pub use block::block_at;
 pub use block::block_count;
 pub use block::data_check;
+pub use block::is_readable;
 pub use reel::Volume;
 pub use reel::VolumeMedium;

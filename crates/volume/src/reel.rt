@@ -5,12 +5,12 @@ ghost use mathlib.Core.Path.{_≡_};
 ghost use Prim.Native.Nat.{_+_, _*_, _^_, _<_};
 ghost use Rattle.volume.specs.Blocks.{blocks, checkOf, dataAt, volumeCells};
 ghost use Rattle.volume.specs.Renewed.{renewed};
-ghost use Rattle.volume.specs.Seen.{VolumeKept, readable, seen, verdicts, volume-bounded, volume-frame};
+ghost use Rattle.volume.specs.Seen.{VolumeKept, seen, verdicts, volume-bounded, volume-frame};
 use crate::block::BLOCK_BYTES;
 use crate::block::DATA_BYTES;
 use crate::block::MOST_BLOCKS;
-use crate::block::block_at;
 use crate::block::block_count;
+use crate::block::is_readable;
 use crate::block::weigh;
 use medium::Medium;
 use medium::MediumFault;
@@ -40,18 +40,9 @@ fn examine(bytes: &[u8]) -> [bool; 2048]
 {
     let mut sound = [false; 2048];
     for k in 0..MOST_BLOCKS {
-        sound[k] = counts_and_is_sound(bytes, k);
+        sound[k] = is_readable(bytes, k);
     }
     sound
-}
-
-fn counts_and_is_sound(bytes: &[u8], k: usize) -> bool
-    ensures { λ r. ⌜ r ≡ readable (now (bytes .entry)) k ⌝ }
-{
-    match block_at(bytes, k) {
-        Some(block) => block.is_sound(),
-        None => false,
-    }
 }
 
 // Writes data byte `i` of block `k`, and the block's check anew.

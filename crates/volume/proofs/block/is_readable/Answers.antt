@@ -3,7 +3,7 @@ use mathlib.Core.Bool.{false, cond}
 use lib.Dec.{eqb}
 use Rattle.std.proofs.shelf.Tests.{lt-ltb}
 use Rattle.volume.specs.Blocks.{blocks, soundAt}
-use Rattle.volume.proofs.reel.counts_and_is_sound.Needs as need
+use Rattle.volume.proofs.block.is_readable.Needs as need
 
 pub returns-in-Some : need.returns-in-Some
 unfolding soundAt

@@ -1,0 +1,15 @@
+use mathlib.Core.Path.{_≡_}
+use mathlib.Core.List.{[], _∷_, _++_}
+use lib.ListN.{drop, replicate}
+use Rattle.medium.specs.Cells.{lost}
+use Rattle.volume.specs.Blocks.{checkOf, volumeCells}
+use Rattle.volume.specs.Renewed.{sealed}
+
+pub record Settled : Type 0 where
+  -- the check of 508 data bytes that are all zero, and that are zero but for the last, which is 255
+  pub check-of-zeros : checkOf (replicate 508 0) ≡ 1
+  pub check-of-a-last-byte : checkOf (replicate 507 0 ++ (255 ∷ [])) ≡ 129541
+  -- the check of 508 bytes that are all 255, as it is stored
+  pub stored-check : drop 508 (sealed (replicate 512 255) 0) ≡ 1 ∷ 247 ∷ 12 ∷ 251 ∷ []
+  -- a block of 512 zero bytes
+  pub block-of-zeros : volumeCells (replicate 512 0) ≡ replicate 508 lost

@@ -25,7 +25,7 @@ abbrev pub Put : List Cell → ℕ → ℕ → List Cell → Result (Unit {0}) M
 Put cs k b ds (Ok u) = (k < length cs) × (getD cs k lost ≢ lost) × (ds ≡ set cs k (byte b))
 Put cs k b ds (Err e) = Refuses cs k e × (ds ≡ cs)
 
--- the same, of the medium below a window, where k is that medium's place
-abbrev pub PutUnder : List Cell → ℕ → ℕ → List Cell → Result (Unit {0}) MediumFault → Type 0
-PutUnder cs k b ds (Ok u) = ds ≡ set cs k (byte b)
-PutUnder cs k b ds (Err e) = ds ≡ cs
+-- what a put leaves of whatever the medium stands on: x in the place k and nothing else, or all as it was where it is refused
+abbrev pub Replaced : {A : Type 0} → List A → ℕ → A → List A → Result (Unit {0}) MediumFault → Type 0
+Replaced xs k x ys (Ok u) = ys ≡ set xs k x
+Replaced xs k x ys (Err e) = ys ≡ xs

@@ -16,6 +16,9 @@ mod lent;
 mod window;
 
 pub use failure::MediumFault;
+pub use failure::MediumFaultDebug;
+pub use failure::MediumFaultEq;
+pub use failure::MediumFaultPartialEq;
 pub use failure::MediumFaultReport;
 pub use flat::Flat;
 pub use flat::FlatMedium;

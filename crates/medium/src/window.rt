@@ -1,10 +1,9 @@
 // The window: some cells in a row of another medium, with places of their own.
 ghost use mathlib.Core.Path.{_≡_};
 ghost use Prim.Native.Nat.{_+_};
-ghost use Rattle.medium.specs.Access.{Put};
-ghost use Rattle.medium.specs.Cells.{window};
+ghost use Rattle.medium.specs.Access.{Put, Replaced};
+ghost use Rattle.medium.specs.Cells.{byte, window};
 ghost use Rattle.medium.specs.Frames.{WindowKept, window-bounded, window-frame};
-ghost use Rattle.medium.specs.Access.{PutUnder};
 use crate::Medium;
 use crate::MediumFault;
 
@@ -60,7 +59,7 @@ pub impl<M: Medium> Medium for Window<M> as WindowMedium {
     fn put(&mut self, at: usize, b: u8) -> Result<(), MediumFault>
         ensures put { λ r. ⌜ Put (window (now (self .entry) .from) (now (self .entry) .len) (M·Medium .cells (now (self .entry) .inner))) at b (window (now (self .exit) .from) (now (self .exit) .len) (M·Medium .cells (now (self .exit) .inner))) r ⌝ }
         ensures kept { λ r. ⌜ WindowKept (M·Medium .cells) (M·Medium .kept) (now (self .entry) .from) (now (self .entry) .len) (now (self .entry) .inner) (now (self .exit) .from) (now (self .exit) .len) (now (self .exit) .inner) ⌝ }
-        ensures under { λ r. ⌜ PutUnder (M·Medium .cells (now (self .entry) .inner)) (now (self .entry) .from + at) b (M·Medium .cells (now (self .exit) .inner)) r ⌝ }
+        ensures under { λ r. ⌜ Replaced (M·Medium .cells (now (self .entry) .inner)) (now (self .entry) .from + at) (byte b) (M·Medium .cells (now (self .exit) .inner)) r ⌝ }
     {
         if at >= (*self).size() {
             return Err(MediumFault::OutOfRange { place: at });

@@ -7,6 +7,9 @@ mod block;
 mod reel;
 
 pub use block::Block;
+pub use block::BlockDebug;
+pub use block::BlockEq;
+pub use block::BlockPartialEq;
 pub use block::block_at;
 pub use block::block_count;
 pub use block::data_check;

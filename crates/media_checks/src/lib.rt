@@ -40,7 +40,13 @@ pub fn put_reel(bytes: &mut [u8], at: usize, b: u8) -> Result<(), MediumFault>
 }
 
 // Through a window over a medium that is lent to it, and then from that medium itself.
-pub fn put_then_fetch<M: Medium>(m: &mut M, from: usize, len: usize, at: usize, b: u8) -> Result<u8, MediumFault>
+pub fn put_then_fetch<M: Medium>(
+    m: &mut M,
+    from: usize,
+    len: usize,
+    at: usize,
+    b: u8,
+) -> Result<u8, MediumFault>
     ensures put { λ r. ⌜ PutFetched (cells (now (m .entry))) (window from len (cells (now (m .entry)))) from at b (cells (now (m .exit))) r ⌝ }
     ensures kept { λ r. ⌜ kept (now (m .entry)) (now (m .exit)) ⌝ }
 {

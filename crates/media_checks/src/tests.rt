@@ -29,14 +29,20 @@ fn checks_of_the_settled_examples() -> Result<(), Fail> {
     last[507] = 255;
     check_eq(data_check(&[0; 508]), 1)?;
     check_eq(data_check(&last), 129541)?;
-    check_eq(data_check(&[255; 508]).to_be_bytes(), [0x01, 0xf7, 0x0c, 0xfb])
+    check_eq(
+        data_check(&[255; 508]).to_be_bytes(),
+        [0x01, 0xf7, 0x0c, 0xfb],
+    )
 }
 
 #[test]
 fn flat_bytes_are_replaced() -> Result<(), Fail> {
     let mut bytes = *b"cells";
     check_eq(put_flat(&mut bytes, 1, b'o'), Ok(()))?;
-    check_eq(put_flat(&mut bytes, 5, b'!'), Err(MediumFault::OutOfRange { place: 5 }))?;
+    check_eq(
+        put_flat(&mut bytes, 5, b'!'),
+        Err(MediumFault::OutOfRange { place: 5 }),
+    )?;
     check_eq(bytes, *b"colls")
 }
 
@@ -53,7 +59,14 @@ fn a_block_of_zeros_is_lost() -> Result<(), Fail> {
     let Err(fault) = put_reel(&mut block, 3, 1) else {
         return Err(Fail::new("the put was accepted"));
     };
-    check_eq(fault.report(), Report { layer: Layer::Medium, number: 2, place: 3 })
+    check_eq(
+        fault.report(),
+        Report {
+            layer: Layer::Medium,
+            number: 2,
+            place: 3,
+        },
+    )
 }
 
 #[test]
@@ -65,7 +78,10 @@ fn windows_nest_and_have_places_of_their_own() -> Result<(), Fail> {
     let mut inner = Window::new(outer, 20, 1000);
     check_eq(inner.size(), 380)?;
     check_eq(inner.fetch(10), Ok(42))?;
-    check_eq(inner.put(380, 1), Err(MediumFault::OutOfRange { place: 380 }))?;
+    check_eq(
+        inner.put(380, 1),
+        Err(MediumFault::OutOfRange { place: 380 }),
+    )?;
     check_eq(put_then_fetch(&mut inner, 5, 10, 5, 43), Ok(43))?;
     check_eq(reel.fetch(130), Ok(43))
 }
@@ -73,14 +89,18 @@ fn windows_nest_and_have_places_of_their_own() -> Result<(), Fail> {
 #[test]
 fn a_survey_of_nothing(rt: LibcRuntime) -> Result<(), Fail> {
     let text = survey_text(rt.alloc(), &[])?;
-    check_eq(text.as_str(), "blocks: 0\nsound: 0\nlost: 0\nreadable cells: 0\nbytes in no block: 0\n")
+    check_eq(
+        text.as_str(),
+        "blocks: 0\nsound: 0\nlost: 0\nreadable cells: 0\nbytes in no block: 0\n",
+    )
 }
 
 #[test]
 fn a_survey_of_too_many_blocks(rt: LibcRuntime) -> Result<(), Fail> {
     let bytes = vec![in rt.alloc(); 0u8; 512 * 2049 + 7]?;
     let text = survey_text(rt.alloc(), bytes.as_slice())?;
-    let head = "blocks: 2048\nsound: 0\nlost: 2048\nreadable cells: 0\nbytes in no block: 519\nblock 0 is lost: its check is 0 and should be 1\n";
+    let head =
+        "blocks: 2048\nsound: 0\nlost: 2048\nreadable cells: 0\nbytes in no block: 519\nblock 0 is lost: its check is 0 and should be 1\n";
     check(text.as_str().starts_with(head))?;
     check_eq(text.as_str().lines().count(), 5 + 2048)
 }

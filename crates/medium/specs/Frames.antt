@@ -40,12 +40,16 @@ part f n m xs ys zs e p q = cc
 
 pub window-frame : {S W : Type 0} {kept : S → S → Type 0} (from len : W → ℕ) (inner : W → S) (cells : S → List Cell) → Frame kept → Frame (λ w x. WindowKept cells kept (from w) (len w) (inner w) (from x) (len x) (inner x))
 window-frame from len inner cells f =
-    record
-      { same = λ w. (refl, refl, f .same (inner w), refl, refl)
-      ; onward = λ w x y p q.
-          (q .0 ∙ p .0, q .1 ∙ p .1, f .onward (inner w) (inner x) (inner y) (p .2) (q .2)
-          , part take (from w) (from x) (cells (inner w)) (cells (inner x)) (cells (inner y)) (p .0) (p .3) (q .3)
-          , part drop (from w + len w) (from x + len x) (cells (inner w)) (cells (inner x)) (cells (inner y)) (ap₂ (λ a b. a + b) (p .0) (p .1)) (p .4) (q .4)) }
+    record {
+      same = λ w. (refl, refl, f .same (inner w), refl, refl);
+      onward = λ w x y p q. (
+        q .0 ∙ p .0,
+        q .1 ∙ p .1,
+        f .onward (inner w) (inner x) (inner y) (p .2) (q .2),
+        part take (from w) (from x) (cells (inner w)) (cells (inner x)) (cells (inner y)) (p .0) (p .3) (q .3),
+        part drop (from w + len w) (from x + len x) (cells (inner w)) (cells (inner x)) (cells (inner y)) (ap₂ (λ a b. a + b) (p .0) (p .1)) (p .4) (q .4),
+      );
+    }
 
 pub window-bounded : (from len : ℕ) (cs : List Cell) → length cs ≤ 1048576 → length (window from len cs) ≤ 1048576
 window-bounded from len cs h = simp (length-take, length-drop) (omega arith)

@@ -17,9 +17,14 @@ pub impl Fault for MediumFault as MediumFaultReport {
     ghost told = { toldMedium };
 
     fn report(&self) -> Report {
-        match *self {
-            MediumFault::OutOfRange { place } => Report { layer: Layer::Medium, number: 1, place },
-            MediumFault::Lost { place } => Report { layer: Layer::Medium, number: 2, place },
+        let (number, place) = match *self {
+            MediumFault::OutOfRange { place } => (1, place),
+            MediumFault::Lost { place } => (2, place),
+        };
+        Report {
+            layer: Layer::Medium,
+            number,
+            place,
         }
     }
 }

@@ -28,7 +28,11 @@ impl<M: Medium> Window<M> {
     pub fn into_inner(self) -> M
         ensures { λ r. ⌜ r ≡ self .inner ⌝ }
     {
-        let Window { inner, from: _, len: _ } = self;
+        let Window {
+            inner,
+            from: _,
+            len: _,
+        } = self;
         inner
     }
 }

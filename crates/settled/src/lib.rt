@@ -6,5 +6,4 @@ ghost use Rattle.settled.specs.Examples.{Settled};
 // Nothing happens here. That this function is proved says that the examples hold.
 pub fn settled_examples()
     ensures { λ _. ⌜ Settled ⌝ }
-{
-}
+{}

@@ -70,6 +70,7 @@ blockwise bs (suc n) =
   where
     by-one : (m : ℕ) → 508 * suc m ≡ 508 * m + 508
     by-one m = omega arith
+
     joined : (b : Bool) → 508 * soundAmong bs n + cond b 508 0 ≡ 508 * (soundAmong bs n + cond b 1 0)
     joined true = omega arith
     joined false = omega arith

@@ -17,7 +17,7 @@ abbrev pub figures : ℕ → ℕ → ℕ → ℕ → ℕ → List ℕ
 figures all sound broken cells outside =
     line (codes "blocks: ") all
     (line (codes "sound: ") sound
-     (line (codes "lost: ") broken (line (codes "readable cells: ") cells (line (codes "bytes in no block: ") outside []))))
+    (line (codes "lost: ") broken (line (codes "readable cells: ") cells (line (codes "bytes in no block: ") outside []))))
 
 abbrev pub headText : List ℕ → List ℕ
 headText bs =

@@ -37,7 +37,10 @@ fn head(heap: Global, bytes: &[u8]) -> Result<String, AllocError>
     let lost = blocks - sound;
     let cells = 508 * sound;
     let outside = bytes.len() - 512 * blocks;
-    format!(heap, "blocks: {blocks}\nsound: {sound}\nlost: {lost}\nreadable cells: {cells}\nbytes in no block: {outside}\n")
+    format!(
+        heap,
+        "blocks: {blocks}\nsound: {sound}\nlost: {lost}\nreadable cells: {cells}\nbytes in no block: {outside}\n"
+    )
 }
 
 // The line of block `k` if it is lost, or nothing.
@@ -58,7 +61,10 @@ fn line_of(heap: Global, k: usize, block: Block) -> Result<String, AllocError>
         return Ok(String::new(heap));
     }
     let Block { stored, due } = block;
-    format!(heap, "block {k} is lost: its check is {stored} and should be {due}\n")
+    format!(
+        heap,
+        "block {k} is lost: its check is {stored} and should be {due}\n"
+    )
 }
 
 // The whole text. It is refused only for want of memory.

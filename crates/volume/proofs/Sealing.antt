@@ -68,10 +68,10 @@ stored-back bs k n l h =
     let l1 : length b1 ≡ length bs = simp length-set in
     let l2 : length b2 ≡ length bs = simp length-set in
     let g8 : getD (set b2 p11 x3) p8 0 ≡ x0 =
-        getD-set-other b2 p11 p8 x3 0 (omega arith) ∙ getD-set-other b1 p10 p8 x2 0 (omega arith) ∙ getD-set-other b0 p9 p8 x1 0 (omega arith)
-        ∙ getD-set-same bs p8 x0 0 (omega arith) in
+    getD-set-other b2 p11 p8 x3 0 (omega arith) ∙ getD-set-other b1 p10 p8 x2 0 (omega arith) ∙ getD-set-other b0 p9 p8 x1 0 (omega arith)
+    ∙ getD-set-same bs p8 x0 0 (omega arith) in
     let g9 : getD (set b2 p11 x3) p9 0 ≡ x1 =
-        getD-set-other b2 p11 p9 x3 0 (omega arith) ∙ getD-set-other b1 p10 p9 x2 0 (omega arith) ∙ getD-set-same b0 p9 x1 0 (omega arith) in
+    getD-set-other b2 p11 p9 x3 0 (omega arith) ∙ getD-set-other b1 p10 p9 x2 0 (omega arith) ∙ getD-set-same b0 p9 x1 0 (omega arith) in
     let g10 : getD (set b2 p11 x3) p10 0 ≡ x2 = getD-set-other b2 p11 p10 x3 0 (omega arith) ∙ getD-set-same b1 p10 x2 0 (omega arith) in
     let g11 : getD (set b2 p11 x3) p11 0 ≡ x3 = getD-set-same b2 p11 x3 0 (omega arith) in
     joined _ _ _ _ x0 x1 x2 x3 g8 g9 g10 g11 ∙ four n h
@@ -81,7 +81,7 @@ data-same : (xs ys : List ℕ) (s : ℕ) → length xs ≡ length ys → ((i : �
 data-same xs ys s l a =
     ext-getD 0 (take 508 (drop s xs)) (take 508 (drop s ys)) (simp (length-take, length-drop) (omega arith))
     (λ i h. let b : i < 508 = omega (arith, length-take 508 (drop s xs)) in
-      getD-take 508 (drop s xs) i 0 b ∙ getD-drop s xs i 0 ∙ a i b ∙ sym (getD-drop s ys i 0) ∙ sym (getD-take 508 (drop s ys) i 0 b))
+    getD-take 508 (drop s xs) i 0 b ∙ getD-drop s xs i 0 ∙ a i b ∙ sym (getD-drop s ys i 0) ∙ sym (getD-take 508 (drop s ys) i 0 b))
 
 sound-same : (xs ys : List ℕ) (j : ℕ) → length xs ≡ length ys → ((i : ℕ) → i < 512 → getD xs (512 * j + i) 0 ≡ getD ys (512 * j + i) 0) → soundAt xs j ≡ soundAt ys j
 unfolding soundAt
@@ -109,7 +109,7 @@ unfolding sealed soundAt
 sound-here bs k l h =
     eq-eqb _ _
     (stored-back bs k (checkOf (dataAt bs k)) l h
-     ∙ ap checkOf (sym (data-same (checked bs k (checkOf (dataAt bs k))) bs (512 * k) (checked-length bs k _) (λ i g. beside bs k _ (512 * k + i) (inl (omega arith))))))
+    ∙ ap checkOf (sym (data-same (checked bs k (checkOf (dataAt bs k))) bs (512 * k) (checked-length bs k _) (λ i g. beside bs k _ (512 * k + i) (inl (omega arith))))))
 
 apart : (j k : ℕ) → j ≢ k → (j < k) ⊎ (k < j)
 apart j k ne = ⊎-elim (λ e. absurd (ne e)) (λ o. o) (cases-order j k)
@@ -146,6 +146,7 @@ cell-elsewhere f bs k i b q hi ne = ap (λ v. cond (getD f (q / 508) false) (byt
   where
     same : q / 508 ≡ k → getD (renewed bs k i b) (512 * (q / 508) + q % 508) 0 ≡ getD bs (512 * (q / 508) + q % 508) 0
     same e = elsewhere bs k i b (512 * (q / 508) + q % 508) (omega arith) (inl (omega arith))
+
     far : (q / 508 ≡ k → ⊥) → getD (renewed bs k i b) (512 * (q / 508) + q % 508) 0 ≡ getD bs (512 * (q / 508) + q % 508) 0
     far n = elsewhere bs k i b (512 * (q / 508) + q % 508) (omega arith) (other-block (q / 508) k (q % 508) n (omega arith))
 
@@ -155,16 +156,19 @@ put-cells f bs p b h t =
     ext-getD lost (seen f after) (set (seen f bs) p (byte b))
     (vol.size f after ∙ ap (λ n. 508 * n) same ∙ sym (vol.size f bs) ∙ sym (length-set (seen f bs) p (byte b)))
     (λ q g. let hq : q < 508 * blocks bs = rw (← same) (rw (← vol.size f after) g) in
-      ⊎-elim (λ e. rw e at-p) (λ ne. at-other q hq ne) (cases-eq q p))
+    ⊎-elim (λ e. rw e at-p) (λ ne. at-other q hq ne) (cases-eq q p))
   where
     after : List ℕ
     after = renewed bs (p / 508) (p % 508) b
+
     same : blocks after ≡ blocks bs
     same = same-blocks bs (p / 508) (p % 508) b
+
     at-p : getD (seen f after) p lost ≡ getD (set (seen f bs) p (byte b)) p lost
     at-p =
         vol.whole f after p (rw same h) t ∙ ap byte (here bs (p / 508) (p % 508) b (omega arith) (vol.within (length bs) p h .2))
         ∙ sym (getD-set-same (seen f bs) p (byte b) lost (rw (vol.size f bs) h))
+
     at-other : (q : ℕ) → q < 508 * blocks bs → q ≢ p → getD (seen f after) q lost ≡ getD (set (seen f bs) p (byte b)) q lost
     at-other q hq ne =
         vol.at f after q (rw same hq) ∙ cell-elsewhere f bs (p / 508) (p % 508) b q (omega arith) (omega arith) ∙ sym (vol.at f bs q hq)

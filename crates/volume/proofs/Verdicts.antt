@@ -52,9 +52,9 @@ pub truthful : (f : List Bool) (bs : List ℕ) → f ≡ verdicts bs → seen f 
 truthful f bs e =
     ext-getD lost (seen f bs) (volumeCells bs) (vol.size f bs ∙ sym (cells-size bs))
     (λ p g. let h : p < 508 * blocks bs = rw (← vol.size f bs) g in
-      vol.at f bs p h
-      ∙ ap (λ b. cond b (byte (getD bs (512 * (p / 508) + p % 508) 0)) lost) (rw e (at bs (p / 508) (vol.within (length bs) p h .0)))
-      ∙ sym (cells-at bs p h))
+    vol.at f bs p h
+    ∙ ap (λ b. cond b (byte (getD bs (512 * (p / 508) + p % 508) 0)) lost) (rw e (at bs (p / 508) (vol.within (length bs) p h .0)))
+    ∙ sym (cells-at bs p h))
 
 not-both : (b : Bool) → b ≡ false → b ≡ true → ⊥
 not-both b p q = let z : _≡_ {A = ℕ} 0 1 = cc in omega arith
@@ -62,20 +62,25 @@ not-both b p q = let z : _≡_ {A = ℕ} 0 1 = cc in omega arith
 -- what a put keeps
 pub kept : (loan : ℕ) (f : List Bool) (bs : List ℕ) (p b : ℕ) → p < 508 * blocks bs → getD f (p / 508) false ≡ true → checkOf (dataAt (set bs (512 * (p / 508) + p % 508) b) (p / 508)) < 4294967296 → VolumeKept loan f bs loan f (renewed bs (p / 508) (p % 508) b)
 kept loan f bs p b h t small =
-    record
-      { lent = refl
-      ; judged = refl
-      ; truthful = λ e. e ∙ sym (same bs (renewed bs k i b) (seal.same-blocks bs k i b) (seal.sound-after bs k i b hi (w .2) (sound e) small))
-      ; size = seal.renewed-length bs k i b
-      ; unread = λ q u. seal.another bs k i b q hi (λ e. not-both (getD f (q / 512) false) u (rw e t)) }
+    record {
+      lent = refl;
+      judged = refl;
+      truthful = λ e. e ∙ sym (same bs (renewed bs k i b) (seal.same-blocks bs k i b) (seal.sound-after bs k i b hi (w .2) (sound e) small));
+      size = seal.renewed-length bs k i b;
+      unread = λ q u. seal.another bs k i b q hi (λ e. not-both (getD f (q / 512) false) u (rw e t));
+    }
   where
     k : ℕ
     k = p / 508
+
     i : ℕ
     i = p % 508
+
     hi : i < 508
     hi = omega arith
+
     w : (k < blocks bs) × (k < 2048) × (512 * k + 512 ≤ length bs)
     w = vol.within (length bs) p h
+
     sound : f ≡ verdicts bs → soundAt bs k ≡ true
     sound e = sym (at bs k (w .0)) ∙ rw (← e) t

@@ -37,11 +37,13 @@ pub record VolumeKept (loan : ℕ) (sound : List Bool) (bs : List ℕ) (loan′ 
 
 pub volume-frame : {S : Type 0} (loan : S → ℕ) (sound : S → List Bool) (bytes : S → List ℕ) → Frame (λ s t. VolumeKept (loan s) (sound s) (bytes s) (loan t) (sound t) (bytes t))
 volume-frame loan sound bytes =
-    record
-      { same = λ s. record { lent = refl; judged = refl; truthful = λ e. e; size = refl; unread = λ q h. refl }
-      ; onward = λ s t u p q. record
-          { lent = q .lent ∙ p .lent
-          ; judged = q .judged ∙ p .judged
-          ; truthful = λ e. q .truthful (p .truthful e)
-          ; size = q .size ∙ p .size
-          ; unread = λ i h. q .unread i (rw (p .judged) h) ∙ p .unread i h } }
+    record {
+      same = λ s. record { lent = refl; judged = refl; truthful = λ e. e; size = refl; unread = λ q h. refl };
+      onward = λ s t u p q. record {
+        lent = q .lent ∙ p .lent;
+        judged = q .judged ∙ p .judged;
+        truthful = λ e. q .truthful (p .truthful e);
+        size = q .size ∙ p .size;
+        unread = λ i h. q .unread i (rw (p .judged) h) ∙ p .unread i h;
+      };
+    }

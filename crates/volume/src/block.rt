@@ -63,7 +63,12 @@ pub fn block_at(bytes: &[u8], k: usize) -> Option<Block>
     }
     let start = BLOCK_BYTES * k;
     let check = start + DATA_BYTES;
-    let stored = u32::from_be_bytes([bytes[check], bytes[check + 1], bytes[check + 2], bytes[check + 3]]);
+    let stored = u32::from_be_bytes([
+        bytes[check],
+        bytes[check + 1],
+        bytes[check + 2],
+        bytes[check + 3],
+    ]);
     let due = weigh(&bytes[start..check]);
     Some(Block { stored, due })
 }

@@ -17,6 +17,7 @@ returns c =
     let h = c .new-flat .ensures .holds in
     let k = sym (c .put .ensures .kept .0 ∙ c .new-flat .ensures .lends) in
     let p = from-start _ (held (take 1048576 bs)) (held (take 1048576 zs)) _ _ r (ap (λ (xs : List ℕ). held (take 1048576 xs)) h) (c .put .ensures .put) in
-    record
-      { put = ended (λ xs. Put (held (take 1048576 bs)) (c .args .at) (c .args .b) (held (take 1048576 xs)) r) zs (search needs) p
-      ; bytes = ended (λ xs. Replaced bs (c .args .at) (c .args .b) xs r) zs (search needs) (after-put 1048576 bs zs _ _ r p (c .put .ensures .kept .1 ∙ ap (drop 1048576) h)) }
+    record {
+      put = ended (λ xs. Put (held (take 1048576 bs)) (c .args .at) (c .args .b) (held (take 1048576 xs)) r) zs (search needs) p;
+      bytes = ended (λ xs. Replaced bs (c .args .at) (c .args .b) xs r) zs (search needs) (after-put 1048576 bs zs _ _ r p (c .put .ensures .kept .1 ∙ ap (drop 1048576) h));
+    }

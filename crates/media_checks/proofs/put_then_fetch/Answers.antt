@@ -27,6 +27,7 @@ returns g c =
     let n = sym (p .kept .2 .0 ∙ ap name s) in
     let m = c .args .m .now in
     let start : w .inner .now ≡ m = ap behind s in
-    record
-      { put = answer (cells m) (cells (w .inner .now)) _ _ (c .args .from) (w .from) (w .len) (c .args .at) (c .args .b) (c .fetch .result) (ap cells start) (c .new-part .ensures .from) (p .put .0) (ended (λ x. cells x ≡ set (cells (w .inner .now)) (w .from + c .args .at) (byte (c .args .b))) z (search needs) (p .under)) (c .fetch .ensures)
-      ; kept = ended (λ x. g .M·Medium .kept m x) z (search needs) (subst (λ x. g .M·Medium .kept x z) start (p .kept .2 .1)) }
+    record {
+      put = answer (cells m) (cells (w .inner .now)) _ _ (c .args .from) (w .from) (w .len) (c .args .at) (c .args .b) (c .fetch .result) (ap cells start) (c .new-part .ensures .from) (p .put .0) (ended (λ x. cells x ≡ set (cells (w .inner .now)) (w .from + c .args .at) (byte (c .args .b))) z (search needs) (p .under)) (c .fetch .ensures);
+      kept = ended (λ x. g .M·Medium .kept m x) z (search needs) (subst (λ x. g .M·Medium .kept x z) start (p .kept .2 .1));
+    }

@@ -10,9 +10,10 @@ use Rattle.survey.proofs.sound_count.Needs.{then-is-readable, else-is-readable
 
 pub loop-k-again : need.loop-k-again
 loop-k-again c =
-    elim (c .if-is-readable .came)
-    [ then-is-readable w ↦ (let m = more (c .args .bytes .now) (c .loop-k .k) true (omega arith) (w .if-is-readable .ensures tt) in let e = w .sound-is in (omega arith, omega arith))
-    | else-is-readable w ↦ (let m = more (c .args .bytes .now) (c .loop-k .k) false (omega arith) (w .if-is-readable .ensures tt) in let e = w .sound-is in (omega arith, omega arith)) ]
+    elim (c .if-is-readable .came) [
+      | then-is-readable w ↦ (let m = more (c .args .bytes .now) (c .loop-k .k) true (omega arith) (w .if-is-readable .ensures tt) in let e = w .sound-is in (omega arith, omega arith))
+      | else-is-readable w ↦ (let m = more (c .args .bytes .now) (c .loop-k .k) false (omega arith) (w .if-is-readable .ensures tt) in let e = w .sound-is in (omega arith, omega arith))
+    ]
 
 pub returns : need.returns
 returns c =

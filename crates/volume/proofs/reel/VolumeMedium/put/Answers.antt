@@ -34,15 +34,17 @@ returns-then-self-k c =
     let h : c .args .at < 508 * blocks bs = omega arith in
     let t = c .if-self-k .taken in
     let r = c .renew .ensures in
-    record
-      { put = (omega arith, byte-not-lost _ _ (vol.whole (v .sound) bs (c .args .at) h t), ap (seen (v .sound)) (r .renewed) ∙ put-cells (v .sound) bs (c .args .at) (c .args .b) h t)
-      ; kept = subst (λ (xs : List ℕ). VolumeKept n (v .sound) bs n (v .sound) xs) (sym (r .renewed)) (kept n (v .sound) bs (c .args .at) (c .args .b) h t (r .bound)) }
+    record {
+      put = (omega arith, byte-not-lost _ _ (vol.whole (v .sound) bs (c .args .at) h t), ap (seen (v .sound)) (r .renewed) ∙ put-cells (v .sound) bs (c .args .at) (c .args .b) h t);
+      kept = subst (λ (xs : List ℕ). VolumeKept n (v .sound) bs n (v .sound) xs) (sym (r .renewed)) (kept n (v .sound) bs (c .args .at) (c .args .b) h t (r .bound));
+    }
 
 pub returns-else-self-k : need.returns-else-self-k
 returns-else-self-k c =
     let v = c .args .self .now in
     let e = vol.size (v .sound) (v .bytes .now) in
     let h : c .args .at < 508 * blocks (v .bytes .now) = omega arith in
-    record
-      { put = ((refl, omega arith, vol.broken (v .sound) (v .bytes .now) (c .args .at) h (c .if-self-k .left)), refl)
-      ; kept = record { lent = refl; judged = refl; truthful = λ e. e; size = refl; unread = λ q u. refl } }
+    record {
+      put = ((refl, omega arith, vol.broken (v .sound) (v .bytes .now) (c .args .at) h (c .if-self-k .left)), refl);
+      kept = record { lent = refl; judged = refl; truthful = λ e. e; size = refl; unread = λ q u. refl };
+    }

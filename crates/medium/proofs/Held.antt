@@ -39,7 +39,7 @@ beyond n bs k b h =
     let e = size n bs in
     drop-set-lt n bs k b (omega arith)
 
-held-same : (xs ys : List ℕ) → held xs ≡ held ys → xs ≡ ys
+pub held-same : (xs ys : List ℕ) → held xs ≡ held ys → xs ≡ ys
 held-same [] [] e = refl
 held-same [] (y ∷ ys) e = let z : _≡_ {A = ℕ} 0 1 = cc in absurd (omega arith)
 held-same (x ∷ xs) [] e = let z : _≡_ {A = ℕ} 0 1 = cc in absurd (omega arith)

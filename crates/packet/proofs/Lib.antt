@@ -1,3 +1,6 @@
 pub mod Parsing
 pub mod Closings
 pub mod Headings
+pub mod Trailings
+pub mod Leads
+pub mod Bodies

@@ -12,7 +12,7 @@ use Rattle.std.specs.declared.option.Option.{Option}
 use Rattle.std.specs.declared.option.Option.the-variants.{None, Some}
 use Rattle.medium.specs.Cells.{Cell}
 use Rattle.code.specs.Codes.{Scalar, Laws}
-use Rattle.text.specs.Stands.{Holds, NoChar, Stands, bytesOf}
+use Rattle.text.specs.Stands.{Holds, NoChar, Stands, WordAt, bytesOf}
 use Rattle.text.proofs.Standing as standing
 use Rattle.packet.specs.Texts.{Quote}
 use Rattle.packet.specs.Parts.{Closing, Ends, Quoting, Then}
@@ -77,6 +77,11 @@ module _ (enc : ℕ → List ℕ) (unit : ℕ) (laws : Laws enc unit) (cs : List
   pub renamed : (P Q : List ℕ → Type 0) (k : ℕ) (r : Option ℕ) → ((t : List ℕ) → P t → Q t) → ((t : List ℕ) → Q t → P t) → Ends enc cs P k r → Ends enc cs Q k r
   renamed P Q k (Some e) f g x = (x .0, f (x .0) (x .1), x .2, x .3)
   renamed P Q k None f g n = λ t q st. n t (g t q) st
+
+  -- a word and nothing else
+  pub exactly : (w : List ℕ) (k : ℕ) (r : Option ℕ) → WordAt enc cs k w r → Ends enc cs (λ t. t ≡ w) k r
+  exactly w k (Some e) x = (w, refl, x .0, x .1)
+  exactly w k None n = λ t e st. n (subst (Stands enc cs k) e st)
 
   -- behind one character, and where it does not stand
   pub after-one : (v : ℕ) (P : List ℕ → Type 0) (k e : ℕ) (r : Option ℕ) → Scalar v → Holds cs k (enc v) → e ≡ k + length (enc v) → Ends enc cs P e r → Ends enc cs (Then (v ∷ []) P) k r

@@ -1,2 +1,4 @@
 pub mod Texts
 pub mod Parts
+pub mod Faults
+pub mod Finds

@@ -1,4 +1,4 @@
--- The header in parts, each with all that follows it, as it is looked for in cells.
+-- Header and trailer in parts, each with all that follows it, as it is looked for in cells.
 use Prim.Native.Nat.{ℕ, _+_, _-_, _≤_, _<_}
 use mathlib.Core.Path.{_≡_}
 use mathlib.Core.Bool.{Bool, true, false}
@@ -41,6 +41,13 @@ Marked unit q t = Then (65279 ∷ q ∷ []) Naming t ⊎ ((unit ≡ 1) × Then (
 
 abbrev pub Heading : ℕ → List ℕ → Type 0
 Heading unit = Then (codes "<?xpacket begin=") (Quoting (Marked unit))
+
+-- the letter, the quote, and the end of a trailer
+abbrev pub Moded : ℕ → ℕ → List ℕ → Type 0
+Moded mode q = Then (mode ∷ []) (Then (q ∷ []) (λ t. t ≡ codes "?>"))
+
+abbrev pub Trailing : ℕ → List ℕ → Type 0
+Trailing mode = Then (codes "<?xpacket end=") (Quoting (Moded mode))
 
 module _ (enc : ℕ → List ℕ) (cs : List Cell) where
   -- the end of a text that P is true of and that stands at k, or none stands there

@@ -20,7 +20,7 @@ pub fn header_at<C: TextCode, M: Medium>(m: &M, at: usize) -> Option<usize>
 }
 
 // The quote at a place, and the place behind it.
-fn quote_at<C: TextCode, M: Medium>(m: &M, at: usize) -> Option<(char, usize)>
+pub(crate) fn quote_at<C: TextCode, M: Medium>(m: &M, at: usize) -> Option<(char, usize)>
     ensures { λ r. ⌜ QuoteAt (C·TextCode .enc) (M·Medium .cells (now (m .entry))) at r ⌝ }
 {
     let (c, behind) = step::<C, M>(m, at)?;

@@ -110,3 +110,13 @@ module _ (enc : ℕ → List ℕ) (unit : ℕ) (laws : Laws enc unit) where
       ap (λ zs. length (bytesOf enc zs)) (take-more w i 0 h) ∙ ap length (bytes-append (take i w) (x ∷ []))
       ∙ length-append (bytesOf enc (take i w)) (enc x ++ []) ∙ ap (λ zs. length (bytesOf enc (take i w)) + length zs) (append-nil (enc x)) in
       (subst (Stands enc cs k) (sym (take-more w i 0 h)) (stands-join cs k (take i w) (x ∷ []) p one), omega arith)
+
+  -- texts of as many characters that stand at one place are one text
+  pub same-text : (cs : List Cell) (k : ℕ) (xs ys : List ℕ) → length xs ≡ length ys → Stands enc cs k xs → Stands enc cs k ys → xs ≡ ys
+  same-text cs k [] [] l p q = refl
+  same-text cs k [] (y ∷ ys) l p q = absurd (omega arith)
+  same-text cs k (x ∷ xs) [] l p q = absurd (omega arith)
+  same-text cs k (x ∷ xs) (y ∷ ys) l p q =
+      let e : x ≡ y = only cs k x y (p .0 .0) (q .0 .0) (stands-head cs k x xs p) (stands-head cs k y ys q) in
+      ap₂ _∷_ e
+      (same-text cs (k + length (enc x)) xs ys (omega arith) (stands-tail cs k x xs p) (subst (λ (z : ℕ). Stands enc cs (k + length (enc z)) ys) (sym e) (stands-tail cs k y ys q)))

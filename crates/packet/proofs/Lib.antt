@@ -4,3 +4,4 @@ pub mod Headings
 pub mod Trailings
 pub mod Leads
 pub mod Bodies
+pub mod Anywhere

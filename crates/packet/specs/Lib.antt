@@ -2,3 +2,4 @@ pub mod Texts
 pub mod Parts
 pub mod Faults
 pub mod Finds
+pub mod Any

@@ -2,6 +2,7 @@
 //
 // What they are is said of texts, in specs/Texts.antt, with no word of how they are looked for. What is found here stands in the
 // cells of any medium, in any text code.
+mod any;
 mod body;
 mod extent;
 mod failure;
@@ -10,6 +11,8 @@ mod first;
 mod header;
 mod trailer;
 
+pub use any::AnyFound;
+pub use any::find_any;
 pub use body::first_trailer;
 pub use extent::Extent;
 pub use failure::PacketFault;

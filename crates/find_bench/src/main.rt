@@ -16,6 +16,7 @@ use std::io;
 use std::time::Instant;
 
 const CELLS: usize = 1_048_576;
+
 const ROUNDS: u32 = 20;
 
 // How many bytes equal `b`: the plain loop.
@@ -40,7 +41,12 @@ fn time_plain(rt: &LibcRuntime, bytes: &[u8]) -> io::Result<u64> {
     Ok(u64::try_from(nanos).unwrap_or(u64::MAX))
 }
 
-fn time_code<C: TextCode>(rt: &LibcRuntime, name: &str, medium: &Flat, plain: u64) -> io::Result<()> {
+fn time_code<C: TextCode>(
+    rt: &LibcRuntime,
+    name: &str,
+    medium: &Flat,
+    plain: u64,
+) -> io::Result<()> {
     let start = Instant::now(rt)?;
     let mut headers: u32 = 0;
     for _ in 0..ROUNDS {
@@ -53,7 +59,10 @@ fn time_code<C: TextCode>(rt: &LibcRuntime, name: &str, medium: &Flat, plain: u6
     let tenths = nanos.saturating_mul(10) / plain.max(1);
     let whole = tenths / 10;
     let rest = tenths % 10;
-    eprintln!(rt, "{name}: {nanos} ns, {whole}.{rest} times the plain loop's {plain} ns")
+    eprintln!(
+        rt,
+        "{name}: {nanos} ns, {whole}.{rest} times the plain loop's {plain} ns"
+    )
 }
 
 fn run(rt: &LibcRuntime, fill: u8) -> io::Result<()> {

@@ -13,7 +13,6 @@ mod trailer;
 
 pub use any::AnyFound;
 pub use any::find_any;
-pub use body::first_trailer;
 pub use extent::Extent;
 pub use failure::PacketFault;
 pub use failure::PacketFaultDebug;

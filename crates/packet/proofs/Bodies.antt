@@ -19,7 +19,7 @@ use Rattle.packet.specs.declared.failure.PacketFault.the-variants.{Unreadable,
 use Rattle.std.specs.declared.result.Result.the-variants.{Ok, Err}
 
 module _ (enc : ℕ → List ℕ) (unit : ℕ) (laws : Laws enc unit) (cs : List Cell) where
-  long : (mode : ℕ) (t : List ℕ) → Trailer mode t → length t ≡ 19
+  pub long : (mode : ℕ) (t : List ℕ) → Trailer mode t → length t ≡ 19
   long mode t x = ap length (x .spelt)
 
   -- where a trailer stands that passes the limit, none ends by it
@@ -30,7 +30,7 @@ module _ (enc : ℕ → List ℕ) (unit : ℕ) (laws : Laws enc unit) (cs : List
       omega arith
 
   -- a trailer takes at least one cell
-  first : (mode : ℕ) (t : List ℕ) → Trailer mode t → (u : List ℕ) × (t ≡ 60 ∷ u)
+  pub first : (mode : ℕ) (t : List ℕ) → Trailer mode t → (u : List ℕ) × (t ≡ 60 ∷ u)
   first mode t x = (_, x .spelt)
 
   pub no-room : (limit k : ℕ) → (length cs ≤ k) ⊎ (limit ≤ k) → NoTrailerBy enc cs limit k

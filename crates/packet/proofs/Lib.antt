@@ -5,3 +5,6 @@ pub mod Trailings
 pub mod Leads
 pub mod Bodies
 pub mod Anywhere
+pub mod Again
+pub mod Walks
+pub mod Once

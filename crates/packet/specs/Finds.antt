@@ -6,7 +6,7 @@ use mathlib.Core.Bool.{Bool, true, false}
 use mathlib.Core.List.{List}
 use lib.ListN.{getD, length}
 use Rattle.medium.specs.Cells.{Cell, byte, lost}
-use Rattle.code.specs.Codes.{Scalar}
+use Rattle.code.specs.Codes.{Laws, Scalar}
 use Rattle.text.specs.Stands.{CharAt, Holds, Stands, bytesOf}
 use Rattle.packet.specs.Texts.{Header, Trailer}
 use Rattle.packet.specs.Parts.{Ends}
@@ -91,3 +91,13 @@ module _ (enc : ℕ → List ℕ) (cs : List Cell) where
   NoPacket unit (NoHeader p) = (p ≡ 0) × FirstHeader unit None
   NoPacket unit (Unreadable f) = (place : ℕ) × (start : ℕ) × FirstHeader unit (Some (place, start)) × FirstTrailer place start (Err (Unreadable f))
   NoPacket unit (NoTrailer p) = (place : ℕ) × (start : ℕ) × FirstHeader unit (Some (place, start)) × FirstTrailer place start (Err (NoTrailer p))
+
+  -- what find answers, in numbers: place, length and whether the packet may be written
+  abbrev pub Finds : ℕ → Result (ℕ × ℕ × Bool) PacketFault → Type 0
+  Finds unit (Ok x) = PacketAt unit (x .0) (x .1) (x .2)
+  Finds unit (Err f) = NoPacket unit f
+
+-- in every medium and every lawful code find has one answer
+abbrev pub OneAnswer : Type 0
+OneAnswer =
+    (enc : ℕ → List ℕ) (unit : ℕ) → Laws enc unit → (cs : List Cell) (r s : Result (ℕ × ℕ × Bool) PacketFault) → Finds enc cs unit r → Finds enc cs unit s → r ≡ s

@@ -1,6 +1,6 @@
 // Finding a packet.
 ghost use mathlib.Core.Path.{_≡_};
-ghost use Rattle.packet.specs.Finds.{NoPacket, PacketAt};
+ghost use Rattle.packet.specs.Finds.{NoPacket, OneAnswer, PacketAt};
 ghost use Rattle.std.specs.Results.{Cases};
 use crate::PacketFault;
 use crate::body::first_trailer;
@@ -52,3 +52,9 @@ pub fn find<C: TextCode, M: Medium>(m: &M) -> Result<Found<C>, PacketFault>
         code: PhantomData,
     })
 }
+
+// Nothing happens here. That this function is proved says that `find` has one answer only: no two places, lengths, letters or
+// faults could both be called right of one medium in one code.
+pub fn find_has_one_answer()
+    ensures { λ _. ⌜ OneAnswer ⌝ }
+{}

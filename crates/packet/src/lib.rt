@@ -22,6 +22,7 @@ pub use failure::PacketFaultPartialEq;
 pub use failure::PacketFaultReport;
 pub use finding::Found;
 pub use finding::find;
+pub use finding::find_has_one_answer;
 pub use first::first_header;
 pub use header::header_at;
 pub use trailer::trailer_at;

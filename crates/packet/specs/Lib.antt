@@ -3,3 +3,4 @@ pub mod Parts
 pub mod Faults
 pub mod Finds
 pub mod Any
+pub mod Examines

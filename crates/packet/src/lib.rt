@@ -4,6 +4,7 @@
 // cells of any medium, in any text code.
 mod any;
 mod body;
+mod examining;
 mod extent;
 mod failure;
 mod finding;
@@ -13,6 +14,7 @@ mod trailer;
 
 pub use any::AnyFound;
 pub use any::find_any;
+pub use examining::examine;
 pub use extent::Extent;
 pub use failure::PacketFault;
 pub use failure::PacketFaultDebug;

@@ -1,6 +1,8 @@
 // The canonical text of a tree: the one text by which a tree is written, and how a packet is filled with it.
 //
 // The meaning stands in specs/. What is proved of it here holds for every lawful tree and every text code.
+#![tactic(auto)]
+
 mod failure;
 mod promises;
 

@@ -1,6 +1,8 @@
 // Characters of marked-up text: which of them XML allows, which may stand in names and language tags, and how each is spelt.
 //
 // Every class is a list of ranges of character numbers, and the functions answer exactly whether a character lies in one of them.
+#![tactic(auto)]
+
 mod classes;
 mod escapes;
 

@@ -3,6 +3,8 @@
 // A scalar value is a number from 0 to hexadecimal D7FF or from E000 to 10FFFF. A text code gives one to four bytes to each of
 // them, such that no character's bytes begin those of another. Whatever is read or written above is proved once, for every code
 // that keeps these laws.
+#![tactic(auto)]
+
 ghost use Rattle.std.specs.Prelude.{◌≡◌, ℕ, List};
 ghost use Rattle.code.specs.Codes.{Decoded, Encoded, Laws};
 

@@ -3,6 +3,8 @@
 // Every call of the engine answers or refuses, and a refusal is always told in the same three words: the layer that found the
 // fault, the refusal's number and the place. docs/refusals.md lists all sixteen. Each layer has a fault type of its own, which
 // carries the fault of the layer below it whole, so that the report of a fault is the same however far up it has travelled.
+#![tactic(auto)]
+
 ghost use Rattle.std.specs.Prelude.{◌≡◌};
 ghost use Rattle.fault.specs.declared.Report.{Report};
 

@@ -1,6 +1,8 @@
 // How long it takes to see that a medium of a million cells has no header, as a multiple of a plain loop over the same bytes.
 //
 // Times go to standard error, since they differ from run to run. What was found goes to standard output.
+#![tactic(auto)]
+
 use code::{TextCode, Utf8, Utf16Be, Utf16Le};
 use medium::Flat;
 use packet::first_header;

@@ -1,4 +1,6 @@
 // Says where the XMP packet of the file on standard input stands.
+#![tactic(auto)]
+
 use location::locate_text;
 use std::io;
 use std::io::Read;

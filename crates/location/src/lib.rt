@@ -1,5 +1,7 @@
 // What is to be said of the packet of a file: its code, where it stands, how long it is and whether it may be written; or the
 // refusal.
+#![tactic(auto)]
+
 ghost use Rattle.std.specs.Prelude.{◌≡◌, take, IfOk, string_bytes};
 ghost use Rattle.location.specs.Text.{Located, text_of_packet, text_of_found, text_of_refusal, word_of, yes_no};
 ghost use Rattle.medium.specs.Cells.{held};

@@ -2,6 +2,8 @@
 //
 // Each function here makes a medium over its caller's bytes, puts one byte through it and lets it go. That their contracts
 // speak of the caller's bytes alone shows that those of the media say enough.
+#![tactic(auto)]
+
 ghost use Rattle.std.specs.Prelude.{◌≡◌, ◌+◌, take};
 ghost use Rattle.media_checks.specs.After.{PutFetched};
 ghost use Rattle.medium.specs.Access.{Put, Replaced};

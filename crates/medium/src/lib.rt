@@ -2,6 +2,8 @@
 //
 // A medium is a list of at most 1,048,576 cells, with places from 0. A cell is a byte or is lost. Nothing else of a medium
 // matters to the layers above, so all of them are written and proved once, for every medium that keeps the contract of `Medium`.
+#![tactic(auto)]
+
 ghost use Rattle.std.specs.Prelude.{◌≡◌, ◌≤◌, List, length};
 ghost use Rattle.medium.specs.Access.{Fetched, Put};
 ghost use Rattle.medium.specs.Cells.{Cell};

@@ -2,6 +2,8 @@
 //
 // What they are is said of texts, in specs/Texts.antt, with no word of how they are looked for. What is found here stands in the
 // cells of any medium, in any text code.
+#![tactic(auto)]
+
 mod any;
 mod body;
 mod examining;

@@ -1,4 +1,6 @@
 // Says of the reel volume on standard input how many blocks are sound, which are lost, and what their checks should have been.
+#![tactic(auto)]
+
 use std::io;
 use std::io::Read;
 use survey::survey_text;

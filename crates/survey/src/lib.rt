@@ -1,4 +1,6 @@
 // What is to be said of a reel volume: how many blocks are sound, which are lost, and what their checks should have been.
+#![tactic(auto)]
+
 ghost use Rattle.std.specs.Prelude.{◌≡◌, ◌*◌, ◌<◌, length, IfOk, string_bytes};
 ghost use Rattle.survey.specs.Text.{block_line, head_text, line_of, text_of_survey};
 ghost use Rattle.survey.specs.Tally.{readable, sound_among};

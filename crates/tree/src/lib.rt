@@ -1,6 +1,8 @@
 // The tree of a packet: what a tree is, which trees are lawful, and what the calls with a path make of one.
 //
 // The meaning stands in specs/, as definitions on lists of character numbers. What is proved of it here holds for every tree.
+#![tactic(auto)]
+
 mod edits;
 mod failure;
 mod form;

@@ -1,5 +1,7 @@
 // Runs the Unicode Standard's examples of the encoding forms and of ill-formed sequences through the text codes, and prints
 // what comes out. The file stdout beside src/ has what the standard says.
+#![tactic(auto)]
+
 ghost use Rattle.std.specs.Prelude.{◌<◌, ◌≤◌, length};
 
 use code::{TextCode, Utf8, Utf16Be, Utf16Le};

@@ -3,6 +3,8 @@
 // A block has 512 bytes: 508 of data, and a check of four, most significant byte first. The check is one more than the sum of
 // the data bytes, each times its number counted from 1. A block whose check is another has lost all of its cells. The first
 // 2,048 whole blocks of the bytes count, and what lies behind them belongs to no block.
+#![tactic(auto)]
+
 mod block;
 mod reel;
 

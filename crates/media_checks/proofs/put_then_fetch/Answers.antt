@@ -4,8 +4,8 @@ use Rattle.media_checks.proofs.Moved.{ended}
 use Rattle.media_checks.proofs.Fetches.{answer, inside}
 use Rattle.media_checks.proofs.put_then_fetch.Goals as goal
 
-pub overflow-add-from : goal.overflow-add-from
-overflow-add-from g c =
+pub overflow_add-from : goal.overflow_add-from
+overflow_add-from g c =
     let w = c.new-part.result in
     let f = c.new-part.ensures.from in
     let b = g.M.Medium.bounded w.inner.now in

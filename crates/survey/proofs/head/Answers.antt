@@ -5,11 +5,11 @@ use Rattle.survey.specs.Text.{figures}
 use Rattle.survey.proofs.Counts.{at_most}
 use Rattle.survey.proofs.head.Goals as goal
 
-pub overflow-sub-lost : goal.overflow-sub-lost
-overflow-sub-lost c = let m = at_most c.args.bytes.now (blocks c.args.bytes.now) in omega arith
+pub overflow_sub-lost : goal.overflow_sub-lost
+overflow_sub-lost c = let m = at_most c.args.bytes.now (blocks c.args.bytes.now) in omega arith
 
-pub overflow-mul-cells : goal.overflow-mul-cells
-overflow-mul-cells c = let m = at_most c.args.bytes.now (blocks c.args.bytes.now) in omega arith
+pub overflow_mul-cells : goal.overflow_mul-cells
+overflow_mul-cells c = let m = at_most c.args.bytes.now (blocks c.args.bytes.now) in omega arith
 
 same : (all sound all' sound' cells size : ℕ) → all ≡ all' → sound ≡ sound' → cells ≡ 508 * sound → figures all sound (all - sound) (508 * sound) (size - 512 * all) ≡ figures all' sound' (all' - sound') cells (size - 512 * all')
 same all sound all' sound' cells size p q r =

@@ -24,8 +24,8 @@ returns-in-err-writable g c =
     rw (p.1, p.2)
     (refused enc g.C.TextCode.unit g.C.TextCode.laws cs g.C.TextCode.unit c.in-Some.place c.in-Some.start _ h c.in-err-writable.ensures)
 
-pub overflow-sub-extent : goal.overflow-sub-extent
-overflow-sub-extent g c =
+pub overflow_sub-extent : goal.overflow_sub-extent
+overflow_sub-extent g c =
     let enc = g.C.TextCode.enc in
     let unit = g.C.TextCode.unit in
     let laws = g.C.TextCode.laws in

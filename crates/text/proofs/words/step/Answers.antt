@@ -2,8 +2,8 @@ use Rattle.std.proofs.Common.{arith}
 use Rattle.text.proofs.Standing.{reach}
 use Rattle.text.proofs.words.step.Goals as goal
 
-pub overflow-add-result : goal.overflow-add-result
-overflow-add-result g c =
+pub overflow_add-result : goal.overflow_add-result
+overflow_add-result g c =
     let cs = g.M.Medium.cells c.args.m.now in
     let enc = g.C.TextCode.enc in
     let p = c.in-Ok.ensures in

@@ -4,8 +4,8 @@ use Rattle.std.proofs.lemmas.Nat.{mul-le}
 use Rattle.volume.specs.Blocks.{weighed}
 use Rattle.volume.proofs.block.weigh.Goals as goal
 
-pub overflow-add-sum-in-loop-i : goal.overflow-add-sum-in-loop-i
-overflow-add-sum-in-loop-i c =
+pub overflow_add-sum-in-loop-i : goal.overflow_add-sum-in-loop-i
+overflow_add-sum-in-loop-i c =
     let m = mul-le (c.loop-i.i + 1) (get_or c.args.bytes.now c.loop-i.i 0) 508 255 (omega arith) (omega arith) in omega arith
 
 pub loop-i-preserved : goal.loop-i-preserved

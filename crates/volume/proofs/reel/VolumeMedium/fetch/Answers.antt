@@ -10,15 +10,15 @@ bounds-self-k c =
     let w = vol.within (length v.bytes.now) c.args.at (omega arith) in
     omega arith
 
-pub overflow-mul-result : goal.overflow-mul-result
-overflow-mul-result c =
+pub overflow_mul-result : goal.overflow_mul-result
+overflow_mul-result c =
     let v = c.args.self.now in
     let e = vol.size v.sound v.bytes.now in
     let w = vol.within (length v.bytes.now) c.args.at (omega arith) in
     omega arith
 
-pub overflow-add-result : goal.overflow-add-result
-overflow-add-result c =
+pub overflow_add-result : goal.overflow_add-result
+overflow_add-result c =
     let v = c.args.self.now in
     let e = vol.size v.sound v.bytes.now in
     let w = vol.within (length v.bytes.now) c.args.at (omega arith) in

@@ -1,15 +1,14 @@
 -- Texts that stand at one place of a range: the one goes on where the other ends.
-use Rattle.std.proofs.Common.{◌≡◌, ℕ, zero, suc, ◌+◌, ◌-◌, ◌<◌, ◌≤◌, List, [], ◌∷◌, ◌++◌, length, take, drop, Ok, Err, Result, sym, refl, ap, ◌∙◌, subst, ap₂, ⊎_elim, arith, length-append, length-drop, length-take}
-use lib.ListN.{length-map}
-use Rattle.std.proofs.lemmas.Bool.{cases_order, cases_lt}
-use Rattle.std.proofs.lemmas.List.{take-take, drop-take, take_all}
-use Rattle.medium.specs.Cells.{Cell, byte, held}
-use Rattle.code.specs.Codes.{Laws, Scalar}
+use Rattle.std.proofs.Common.{◌≡◌, ℕ, zero, suc, ◌+◌, ◌<◌, ◌≤◌, List, [], ◌∷◌, length, take, drop, Ok, Err, Result, sym, refl, ap, ◌∙◌, subst, ap₂, ⊎_elim, arith, length-append, length-take}
+use Rattle.std.proofs.lemmas.Bool.{cases_order}
+use Rattle.std.proofs.lemmas.List.{drop-take, take_all}
+use Rattle.medium.specs.Cells.{Cell}
+use Rattle.code.specs.Codes.{Laws}
 use Rattle.code.specs.declared.failure.CodeFault.{CodeFault}
 use Rattle.text.specs.Stands.{CharAt, Holds, NoChar, Scalars, Stands, bytes_of}
 use Rattle.text.proofs.Standing as standing
 use Rattle.packet.proofs.Walks as walks
-use Rattle.decoding.specs.Passage.{Characters, place_of, Decodes, DecodesRight}
+use Rattle.decoding.specs.Passage.{Characters, DecodesRight}
 
 module _ (enc : ℕ → List ℕ) (unit : ℕ) (laws : Laws enc unit) where
   size : (v : ℕ) (vs : List ℕ) → length (bytes_of enc (v ∷ vs)) ≡ length (enc v) + length (bytes_of enc vs)

@@ -1,5 +1,5 @@
 -- A byte that was put through a window is fetched from the medium underneath.
-use Rattle.std.proofs.Common.{◌≡◌, ℕ, ◌+◌, ◌-◌, ◌<◌, ◌≤◌, min, List, length, get_or, set, Ok, Err, Result, sym, ap, ◌∙◌, subst, arith, length-set}
+use Rattle.std.proofs.Common.{◌≡◌, ℕ, ◌+◌, ◌<◌, List, length, get_or, set, Ok, Err, Result, ap, ◌∙◌, subst, arith, length-set}
 use Rattle.std.proofs.lemmas.List.{get_or-set_same}
 use Rattle.medium.specs.Cells.{Cell, byte, lost, window}
 use Rattle.medium.specs.Access.{Fetched}

@@ -1,5 +1,4 @@
 -- The refusals of this layer, by number and place.
-use Rattle.fault.specs.declared.Layer.{Layer}
 use Rattle.fault.specs.declared.Layer.TheVariants.{Medium}
 use Rattle.fault.specs.declared.Report.{Report}
 use Rattle.medium.specs.declared.failure.MediumFault.{MediumFault}

@@ -1,5 +1,5 @@
 -- What each medium of this crate leaves alone besides its cells, and that it has not too many of them.
-use Rattle.std.specs.Prelude.{◌≡◌, ℕ, ◌+◌, ◌≤◌, min, List, length, take, drop, refl}
+use Rattle.std.specs.Prelude.{◌≡◌, ℕ, ◌+◌, ◌≤◌, List, length, take, drop, refl}
 use Rattle.std.proofs.Common.{ap₂, ◌∙◌, arith, length-take, length-drop}
 use Rattle.std.proofs.lemmas.List.{length-map}
 use Rattle.medium.specs.Cells.{Cell, held, window}

@@ -1,5 +1,5 @@
 -- The lowest header among the codes.
-use Rattle.std.proofs.Common.{◌≡◌, ℕ, ◌<◌, ◌≤◌, Bool, ◌⊎◌, List, length, Some, None, refl, inl, inr, ⊎_elim, arith}
+use Rattle.std.proofs.Common.{◌≡◌, ℕ, ◌<◌, ◌≤◌, Bool, List, length, Some, ⊎_elim, arith}
 use Rattle.std.proofs.lemmas.Bool.{cases_lt}
 use Rattle.medium.specs.Cells.{Cell}
 use Rattle.code.specs.Codes.{Laws}
@@ -7,8 +7,6 @@ use Rattle.code.specs.Utf8.{enc8}
 use Rattle.code.specs.Utf8Laws.{utf8_laws}
 use Rattle.code.specs.Utf16.{big_pair, enc16, little_pair}
 use Rattle.code.specs.Utf16Laws.{big_order, little_order, utf16_laws}
-use Rattle.packet.specs.Texts.{Header}
-use Rattle.packet.specs.Parts.{Ends}
 use Rattle.packet.specs.Finds.{FirstHeader, NoPacket, PacketAt}
 use Rattle.packet.specs.Any.{Code, LowestAt, NoneBelow, NoneInAny, enc_of, unit_of, utf8, utf16be, utf16le}
 use Rattle.packet.specs.declared.failure.PacketFault.{PacketFault}

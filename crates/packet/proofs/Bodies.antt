@@ -1,12 +1,12 @@
 -- From a header on to the first trailer.
-use Rattle.std.proofs.Common.{◌≡◌, ℕ, ◌+◌, ◌-◌, ◌<◌, ◌≤◌, Bool, true, false, ◌⊎◌, List, [], ◌∷◌, ◌++◌, length, Some, None, Ok, Err, sym, refl, ap, ◌∙◌, subst, inl, inr, arith, length-append}
+use Rattle.std.proofs.Common.{◌≡◌, ℕ, ◌+◌, ◌<◌, ◌≤◌, Bool, ◌⊎◌, List, ◌∷◌, length, Some, Ok, Err, sym, ap, ◌∙◌, subst, arith, length-append}
 use Rattle.medium.specs.Cells.{Cell}
-use Rattle.code.specs.Codes.{Scalar, Laws}
-use Rattle.text.specs.Stands.{Holds, Stands, bytes_of}
+use Rattle.code.specs.Codes.{Laws}
+use Rattle.text.specs.Stands.{Stands, bytes_of}
 use Rattle.text.proofs.Standing as standing
 use Rattle.packet.specs.Texts.{Header, Trailer}
 use Rattle.packet.specs.Parts.{Ends}
-use Rattle.packet.specs.Finds.{FirstHeader, FirstTrailer, NoPacket, NoTrailerBy, OneOn, Passed, begun, mode_of, more}
+use Rattle.packet.specs.Finds.{FirstHeader, FirstTrailer, NoPacket, NoTrailerBy, Passed, begun, mode_of, more}
 use Rattle.packet.specs.declared.failure.PacketFault.{PacketFault}
 use Rattle.packet.specs.declared.failure.PacketFault.TheVariants.{Unreadable, NoHeader, NoTrailer}
 

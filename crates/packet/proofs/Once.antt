@@ -1,9 +1,8 @@
 -- Finding a packet has one answer.
-use Rattle.std.proofs.Common.{◌≡◌, ℕ, ◌+◌, ◌<◌, ◌≤◌, Bool, List, Some, None, Ok, Err, Result, sym, refl, ap, ◌∙◌, subst, ⊎_elim, arith}
+use Rattle.std.proofs.Common.{◌≡◌, ℕ, ◌+◌, ◌<◌, Bool, List, Some, None, Ok, Err, Result, sym, ap, ◌∙◌, subst, ⊎_elim, arith}
 use Rattle.std.proofs.lemmas.Bool.{cases_order}
 use Rattle.medium.specs.Cells.{Cell}
 use Rattle.code.specs.Codes.{Laws}
-use Rattle.code.specs.declared.failure.CodeFault.{CodeFault}
 use Rattle.packet.specs.Finds.{Finds, FirstHeader, FirstTrailer, OneAnswer}
 use Rattle.packet.specs.declared.failure.PacketFault.{PacketFault}
 use Rattle.packet.specs.declared.failure.PacketFault.TheVariants.{Unreadable, NoHeader, NoTrailer}

@@ -1,5 +1,5 @@
 -- A trailer in parts is what the definition says.
-use Rattle.std.proofs.Common.{◌≡◌, ℕ, ◌⊎◌, List, [], ◌∷◌, ◌++◌, codes, refl, ap, ◌∙◌}
+use Rattle.std.proofs.Common.{◌≡◌, ℕ, ◌⊎◌, List, ◌∷◌, ◌++◌, codes, refl, ap, ◌∙◌}
 use Rattle.packet.specs.Texts.{Trailer}
 use Rattle.packet.specs.Parts.{Trailing}
 

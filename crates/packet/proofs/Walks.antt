@@ -1,12 +1,12 @@
 -- The way from a header to the first trailer is one way only: at every character of it at most one thing can be found.
-use Rattle.std.proofs.Common.{◌≡◌, ℕ, zero, suc, ◌+◌, ◌-◌, ◌<◌, ◌≤◌, Bool, true, false, ◌≢◌, ◌⊎◌, List, [], ◌∷◌, ◌++◌, length, get_or, Some, None, Ok, Err, Result, sym, refl, ap, ◌∙◌, subst, ap₂, inl, inr, ⊎_elim, arith}
-use Rattle.std.proofs.lemmas.Bool.{cases_order, cases_eq, cases_lt}
-use Rattle.medium.specs.Cells.{Cell, lost}
+use Rattle.std.proofs.Common.{◌≡◌, ℕ, zero, suc, ◌+◌, ◌<◌, ◌≤◌, Bool, true, false, List, length, get_or, Some, Ok, Err, Result, sym, refl, ap, ◌∙◌, subst, ap₂, ⊎_elim, arith}
+use Rattle.std.proofs.lemmas.Bool.{cases_order}
+use Rattle.medium.specs.Cells.{Cell}
 use Rattle.medium.specs.declared.failure.MediumFault.TheVariants.{OutOfRange, Lost}
-use Rattle.code.specs.Codes.{Scalar, Laws}
+use Rattle.code.specs.Codes.{Laws}
 use Rattle.code.specs.declared.failure.CodeFault.{CodeFault}
 use Rattle.code.specs.declared.failure.CodeFault.TheVariants.{Unread, NoCharacter}
-use Rattle.text.specs.Stands.{CharAt, Cut, Holds, NoChar, Stands, bytes_of}
+use Rattle.text.specs.Stands.{CharAt, Cut, NoChar, bytes_of}
 use Rattle.text.proofs.Standing as standing
 use Rattle.packet.specs.Texts.{Trailer}
 use Rattle.packet.specs.Parts.{Ends}

@@ -1,5 +1,5 @@
 -- What finding a packet in any code answers.
-use Rattle.std.specs.Prelude.{◌≡◌, ℕ, ◌<◌, ◌≤◌, ◌⊎◌, List, length, Some, None, Err}
+use Rattle.std.specs.Prelude.{◌≡◌, ℕ, ◌<◌, ◌⊎◌, List, length, Some, None, Err}
 use Rattle.medium.specs.Cells.{Cell}
 use Rattle.code.specs.Utf8.{enc8}
 use Rattle.code.specs.Utf16.{big_pair, enc16, little_pair}

@@ -1,5 +1,5 @@
 -- Header and trailer in parts, each with all that follows it, as it is looked for in cells.
-use Rattle.std.specs.Prelude.{◌≡◌, ℕ, ◌+◌, ◌-◌, ◌<◌, ◌≤◌, Bool, true, false, ◌≢◌, ◌⊎◌, List, [], ◌∷◌, ◌++◌, length, Some, None, codes, Option, ◌==◌}
+use Rattle.std.specs.Prelude.{◌≡◌, ℕ, ◌+◌, ◌-◌, ◌≤◌, Bool, true, false, ◌≢◌, ◌⊎◌, List, [], ◌∷◌, ◌++◌, length, Some, None, codes, Option, ◌==◌}
 use Rattle.medium.specs.Cells.{Cell}
 use Rattle.code.specs.Codes.{Scalar}
 use Rattle.text.specs.Stands.{Holds, Stands, bytes_of}

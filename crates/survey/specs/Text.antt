@@ -1,5 +1,5 @@
 -- The text of a survey.
-use Rattle.std.specs.Prelude.{ℕ, zero, suc, ◌+◌, ◌-◌, ◌*◌, cond, List, [], ◌∷◌, ◌++◌, length, codes, decimal, ◌==◌}
+use Rattle.std.specs.Prelude.{ℕ, zero, suc, ◌-◌, ◌*◌, cond, List, [], ◌∷◌, ◌++◌, length, codes, decimal, ◌==◌}
 use Rattle.volume.specs.Blocks.{blocks, check_of, data_at, stored_at, volume_cells}
 use Rattle.survey.specs.Tally.{readable, sound_among}
 

@@ -1,6 +1,6 @@
 -- The bytes from a place on, up to the fourth, a lost cell or the end: whether they begin with a character says whether one
 -- stands there.
-use Rattle.std.proofs.Common.{◌≡◌, ℕ, ◌+◌, ◌-◌, ◌<◌, ◌≤◌, min, ◌≢◌, List, [], ◌∷◌, ◌++◌, length, get_or, take, drop, set, Ok, Err, sym, refl, ap, ◌∙◌, subst, ap₂, ⊎_elim, arith, length-drop, length-set, length-take}
+use Rattle.std.proofs.Common.{◌≡◌, ℕ, ◌+◌, ◌-◌, ◌<◌, ◌≤◌, min, ◌≢◌, List, [], ◌∷◌, ◌++◌, length, get_or, take, drop, set, Ok, Err, sym, ap, ◌∙◌, subst, ap₂, ⊎_elim, arith, length-drop, length-set, length-take}
 use lib.ListN.{length-map}
 use Rattle.std.proofs.lemmas.List.{take-take, take-map, take_more, take_more_set, map_push, get_or-take, get_or-drop, get_or-map, length-take-le}
 use Rattle.std.proofs.lemmas.Bool.{cases_lt}

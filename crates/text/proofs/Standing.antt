@@ -1,10 +1,10 @@
 -- Texts that stand one behind the other, and that no two characters stand at one place.
-use Rattle.std.proofs.Common.{◌≡◌, ℕ, ◌+◌, ◌-◌, ◌<◌, ◌≤◌, min, List, [], ◌∷◌, ◌++◌, map, length, get_or, take, drop, sym, refl, ap, ◌∙◌, subst, ap₂, ⊎_elim, arith, length-append, length-drop, length-take}
+use Rattle.std.proofs.Common.{◌≡◌, ℕ, ◌+◌, ◌-◌, ◌<◌, ◌≤◌, min, List, [], ◌∷◌, ◌++◌, length, get_or, take, drop, sym, refl, ap, ◌∙◌, subst, ap₂, ⊎_elim, arith, length-append, length-drop, length-take}
 use lib.ListN.{length-map}
 use Rattle.std.proofs.lemmas.List.{append_assoc, map-append, take-append-drop, drop-drop, take_at, drop_at, take-take, drop-take, take-map, drop_more, take_more, append-nil}
 use Rattle.std.proofs.lemmas.Bool.{cases_lt}
 use Rattle.medium.proofs.Held.{held_same}
-use Rattle.medium.specs.Cells.{Cell, byte, held, lost}
+use Rattle.medium.specs.Cells.{Cell, byte, held}
 use Rattle.code.specs.Codes.{Scalar, Begins, Laws}
 use Rattle.text.specs.Stands.{Holds, bytes_of, Scalars, Stands}
 

@@ -3,7 +3,7 @@ use Rattle.std.specs.Prelude.{◌≡◌, ℕ, ◌+◌, ◌<◌, ◌≤◌, ◌�
 use Rattle.code.specs.Codes.{Scalar}
 use Rattle.code.specs.declared.failure.CodeFault.{CodeFault}
 use Rattle.code.specs.declared.failure.CodeFault.TheVariants.{Unread, NoCharacter}
-use Rattle.medium.specs.Cells.{Cell, byte, held, lost}
+use Rattle.medium.specs.Cells.{Cell, held, lost}
 use Rattle.medium.specs.declared.failure.MediumFault.TheVariants.{OutOfRange, Lost}
 
 -- the cells from the place k on hold these bytes

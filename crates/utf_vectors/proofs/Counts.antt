@@ -1,5 +1,5 @@
 -- How many bytes a character has: some, and no more than there are.
-use Rattle.std.proofs.Common.{◌≡◌, ℕ, ◌<◌, ◌≤◌, min, List, length, take, sym, ap, ◌∙◌, arith, length-take}
+use Rattle.std.proofs.Common.{◌≡◌, ℕ, ◌<◌, ◌≤◌, min, List, length, sym, ap, ◌∙◌, arith, length-take}
 use Rattle.code.specs.Codes.{Laws, Scalar, Begins}
 
 pub some_bytes : (enc : ℕ → List ℕ) (unit : ℕ) → Laws enc unit → (v n : ℕ) → Scalar v → n ≡ length (enc v) → 0 < n

@@ -1,5 +1,5 @@
 -- What was found of the checks when the volume was made, and that it stays true.
-use Rattle.std.proofs.Common.{◌≡◌, ℕ, ◌+◌, ◌*◌, ◌/◌, ◌%◌, ◌<◌, ◌≤◌, min, Bool, true, false, cond, ltb, ◌≢◌, List, [], ◌∷◌, map, length, get_or, set, sym, refl, ap, ◌∙◌, ap₂, zero-add, arith}
+use Rattle.std.proofs.Common.{◌≡◌, ℕ, ◌+◌, ◌*◌, ◌/◌, ◌%◌, ◌<◌, ◌≤◌, Bool, true, false, cond, ltb, List, [], ◌∷◌, map, length, get_or, set, sym, refl, ap, ◌∙◌, ap₂, zero-add, arith}
 use Rattle.std.specs.List.{range_with_len}
 use Rattle.std.proofs.lemmas.List.FromFn.{length-map-range_with_len, get_or-map-range_with_len, fill_by_all}
 use Rattle.std.proofs.lemmas.List.{ext_get_or}
@@ -7,7 +7,7 @@ use Rattle.std.proofs.lemmas.Bool.{lt-ltb}
 use Rattle.medium.specs.Cells.{byte, lost}
 use Rattle.volume.specs.Blocks.{blocks, readable, sound_at, volume_cells, cell_of, check_of, data_at}
 use Rattle.volume.specs.Renewed.{renewed}
-use Rattle.volume.specs.Seen.{verdicts, seen, seen_at, VolumeKept}
+use Rattle.volume.specs.Seen.{verdicts, seen, VolumeKept}
 use Rattle.volume.proofs.Volumes as vol
 use Rattle.volume.proofs.Sealing as seal
 

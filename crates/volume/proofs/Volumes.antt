@@ -1,9 +1,8 @@
 -- The cells that a volume shows, place by place.
-use Rattle.std.proofs.Common.{◌≡◌, ℕ, ◌+◌, ◌*◌, ◌/◌, ◌%◌, ◌<◌, ◌≤◌, min, Bool, true, false, cond, List, length, get_or, sym, ap, ◌∙◌, ap₂, zero-add, arith}
+use Rattle.std.proofs.Common.{◌≡◌, ℕ, ◌+◌, ◌*◌, ◌/◌, ◌%◌, ◌<◌, ◌≤◌, min, Bool, true, false, cond, List, length, get_or, ap, ◌∙◌, zero-add, arith}
 use Rattle.std.proofs.lemmas.List.FromFn.{length-map-range_with_len, get_or-map-range_with_len}
-use Rattle.std.proofs.lemmas.List.{ext_get_or}
 use Rattle.medium.specs.Cells.{byte, lost}
-use Rattle.volume.specs.Blocks.{volume_cells, blocks, cell_of}
+use Rattle.volume.specs.Blocks.{blocks}
 use Rattle.volume.specs.Seen.{seen, seen_at}
 
 pub size : (f : List Bool) (bs : List ℕ) → length (seen f bs) ≡ 508 * blocks bs

@@ -1,8 +1,8 @@
-use Rattle.std.proofs.Common.{◌≡◌, ℕ, List, take, sym, ap, ◌∙◌, subst, inl, inr}
+use Rattle.std.proofs.Common.{ℕ, List, take, ap, ◌∙◌, subst, inl, inr}
 use Rattle.std.proofs.lemmas.Result.{IfOk-weaker}
 use Rattle.medium.specs.Cells.{held}
 use Rattle.packet.specs.Any.{FoundAny, NoneInAny}
-use Rattle.location.specs.Text.{text_of_found, text_of_refusal}
+use Rattle.location.specs.Text.{text_of_refusal}
 use Rattle.location.proofs.locate_text.Goals as goal
 
 pub returns-in-Ok : goal.returns-in-Ok

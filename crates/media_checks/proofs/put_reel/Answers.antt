@@ -1,7 +1,7 @@
-use Rattle.std.proofs.Common.{◌≡◌, ℕ, Bool, List, sym, ap, ◌∙◌, ap₂, rules}
+use Rattle.std.proofs.Common.{◌≡◌, sym, ap, ◌∙◌, rules}
 use Rattle.medium.specs.Access.{Put}
 use Rattle.volume.specs.Blocks.{volume_cells}
-use Rattle.volume.specs.Seen.{seen, verdicts}
+use Rattle.volume.specs.Seen.{verdicts}
 use Rattle.volume.proofs.Verdicts.{truthful}
 use Rattle.media_checks.proofs.Moved.{ended, from_start, to_end}
 use Rattle.media_checks.proofs.put_reel.Goals as goal

@@ -1,4 +1,4 @@
-use Rattle.std.proofs.Common.{List, [], ◌∷◌, None, codes}
+use Rattle.std.proofs.Common.{None, codes}
 use Rattle.packet.specs.Texts.{Header}
 use Rattle.packet.specs.Parts.{Heading, Marked, Quoting}
 use Rattle.packet.proofs.Headings.{header-from, header-to}

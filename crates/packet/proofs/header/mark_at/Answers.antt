@@ -1,4 +1,4 @@
-use Rattle.std.proofs.Common.{◌≡◌, ℕ, List, [], ◌∷◌, None, sym, ◌∙◌, arith}
+use Rattle.std.proofs.Common.{◌≡◌, ℕ, List, [], ◌∷◌, None, sym, ◌∙◌}
 use Rattle.packet.specs.Parts.{Naming, Then}
 use Rattle.packet.proofs.Parsing as parse
 use Rattle.packet.proofs.header.mark_at.Goals as goal

@@ -1,4 +1,4 @@
-use Rattle.std.proofs.Common.{◌≡◌, ℕ, ◌<◌, ◌≤◌, ◌⊎◌, ⊎_elim, arith}
+use Rattle.std.proofs.Common.{◌≡◌, ℕ, arith}
 use Rattle.code.specs.Codes.{Scalar}
 use Rattle.text.proofs.Standing.{only}
 use Rattle.packet.specs.Texts.{Quote}

@@ -1,4 +1,4 @@
-use Rattle.std.proofs.Common.{◌≡◌, false, cond, eqb, sym, ap, ◌∙◌, ap₂}
+use Rattle.std.proofs.Common.{false, cond, eqb, sym, ap, ◌∙◌, ap₂}
 use Rattle.std.proofs.lemmas.Bool.{lt-ltb}
 use Rattle.volume.specs.Blocks.{blocks, sound_at}
 use Rattle.volume.proofs.block.is_readable.Goals as goal

@@ -1,4 +1,4 @@
-use Rattle.std.proofs.Common.{◌≡◌, ◌+◌, ◌<◌, length, take, drop, refl, ap, arith}
+use Rattle.std.proofs.Common.{◌+◌, ◌<◌, length, take, drop, refl, ap, arith}
 use Rattle.medium.specs.Cells.{window}
 use Rattle.medium.proofs.Windows as win
 use Rattle.medium.proofs.window.WindowMedium.put.Goals as goal

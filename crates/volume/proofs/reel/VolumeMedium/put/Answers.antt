@@ -1,4 +1,4 @@
-use Rattle.std.proofs.Common.{◌≡◌, ℕ, ◌*◌, ◌<◌, List, length, sym, refl, ap, ◌∙◌, subst, arith}
+use Rattle.std.proofs.Common.{ℕ, ◌*◌, ◌<◌, List, length, sym, refl, ap, ◌∙◌, subst, arith}
 use Rattle.medium.proofs.Held.{byte_not_lost}
 use Rattle.volume.specs.Blocks.{blocks}
 use Rattle.volume.specs.Seen.{seen, VolumeKept}

@@ -9,5 +9,5 @@ same code p p' n n' y y' a b c = ap (λ x. four_lines code x n y) a ∙ ap (λ x
 pub returns : goal.returns
 returns c =
     IfOk-weaker c.format.result _ _
-    (λ s e. e ∙ same c.args.code.now _ _ _ _ _ _ c.place-place.ensures c.len-len.ensures.value c.yes-or-no-may.ensures)
+    (λ s e. e ∙ same c.args.code.now _ _ _ _ _ _ c.place-place.ensures c.len-len.ensures.value c.yes_or_no-may.ensures)
     c.format.ensures.ok

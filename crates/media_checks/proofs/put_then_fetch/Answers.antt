@@ -9,7 +9,7 @@ overflow_add-from g c =
     let w = c.new-part.result in
     let f = c.new-part.ensures.from in
     let b = g.M.Medium.bounded w.inner.now in
-    let i = inside w.from w.len (g.M.Medium.cells w.inner.now) c.args.at c.in-ok-put.ensures.put.0 in
+    let i = inside w.from w.len (g.M.Medium.cells w.inner.now) c.args.at c.in_ok-put.ensures.put.0 in
     omega arith
 
 pub returns : goal.returns
@@ -17,7 +17,7 @@ returns g c =
     let w = c.new-part.result in
     let z = c.put.new.self.inner.now in
     let cells = g.M.Medium.cells in
-    let p = c.in-ok-put.ensures in
+    let p = c.in_ok-put.ensures in
     let s = c.new-part.ensures.inner in
     let n = sym (p.kept.2.0 ∙ ap (λ x. x.ghost_name) s) in
     let m = c.args.m.now in

@@ -6,4 +6,4 @@ use Rattle.survey.proofs.block_line.Goals as goal
 pub returns-in-Some : goal.returns-in-Some
 returns-in-Some c =
     let b = c.in-Some.ensures in
-    IfOk-weaker c.line-of.result _ _ (λ s e. e ∙ ap₂ (line_of c.args.k) b.1 b.2) c.line-of.ensures
+    IfOk-weaker c.line_of.result _ _ (λ s e. e ∙ ap₂ (line_of c.args.k) b.1 b.2) c.line_of.ensures

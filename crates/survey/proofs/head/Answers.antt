@@ -20,5 +20,5 @@ same all sound all' sound' cells size p q r =
 pub returns : goal.returns
 returns c =
     IfOk-weaker c.format.result _ _
-    (λ s e. e ∙ same c.block-count-blocks.result c.sound-count-sound.result _ _ _ (length c.args.bytes.now) c.block-count-blocks.ensures c.sound-count-sound.ensures.sound c.sound-count-sound.ensures.cells)
+    (λ s e. e ∙ same c.block_count-blocks.result c.sound_count-sound.result _ _ _ (length c.args.bytes.now) c.block_count-blocks.ensures c.sound_count-sound.ensures.sound c.sound_count-sound.ensures.cells)
     c.format.ensures.ok

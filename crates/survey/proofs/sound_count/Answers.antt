@@ -3,13 +3,13 @@ use Rattle.volume.specs.Blocks.{blocks}
 use Rattle.survey.specs.Tally.{sound_among}
 use Rattle.survey.proofs.Counts.{cells, more}
 use Rattle.survey.proofs.sound_count.Goals as goal
-use Rattle.survey.proofs.sound_count.Goals.{then-is-readable, else-is-readable}
+use Rattle.survey.proofs.sound_count.Goals.{then-is_readable, else-is_readable}
 
 pub loop-k-preserved : goal.loop-k-preserved
 loop-k-preserved c =
-    elim c.if-is-readable.branch [
-      | then-is-readable w ↦ (let m = more c.args.bytes.now c.loop-k.k true (omega arith) w.if-is-readable.ensures in let e = w.sound-is in (omega arith, omega arith))
-      | else-is-readable w ↦ (let m = more c.args.bytes.now c.loop-k.k false (omega arith) w.if-is-readable.ensures in let e = w.sound-is in (omega arith, omega arith))
+    elim c.if-is_readable.branch [
+      | then-is_readable w ↦ (let m = more c.args.bytes.now c.loop-k.k true (omega arith) w.if-is_readable.ensures in let e = w.sound-is in (omega arith, omega arith))
+      | else-is_readable w ↦ (let m = more c.args.bytes.now c.loop-k.k false (omega arith) w.if-is_readable.ensures in let e = w.sound-is in (omega arith, omega arith))
     ]
 
 pub returns : goal.returns

@@ -9,4 +9,4 @@ grown bs k text before head pushed line t p l b =
 
 pub loop-k-preserved : goal.loop-k-preserved
 loop-k-preserved c =
-    grown c.args.bytes.now c.loop-k.k _ _ (head_text c.args.bytes.now) _ _ c.in-ok-push-str.ensures.bytes c.as-str.ensures.value c.in-ok-line.ensures c.loop-k.invariant
+    grown c.args.bytes.now c.loop-k.k _ _ (head_text c.args.bytes.now) _ _ c.in_ok-push_str.ensures.bytes c.as_str.ensures.value c.in_ok-line.ensures c.loop-k.invariant

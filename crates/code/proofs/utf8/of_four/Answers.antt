@@ -5,30 +5,30 @@ use Rattle.code.proofs.Forms8.{four-found, four-cut, four-cut2, four-cut3, four-
 use Rattle.code.specs.Utf8.{enc8}
 use Rattle.code.proofs.utf8.of_four.Goals as goal
 
-pub returns-in-err-a : goal.returns-in-err-a
-returns-in-err-a c =
-    let r = err_from_is_err_and c.from-residual.result c.from-residual.ensures.1 in
-    rw (r.1, r.2) (no_tail c.args.bytes.now 1 _ c.in-err-a.ensures (four-cut c.args.bytes.now c.args.lead c.requires.0))
+pub returns-in_err-a : goal.returns-in_err-a
+returns-in_err-a c =
+    let r = err_from_is_err_and c.from_residual.result c.from_residual.ensures.1 in
+    rw (r.1, r.2) (no_tail c.args.bytes.now 1 _ c.in_err-a.ensures (four-cut c.args.bytes.now c.args.lead c.requires.bytes_value))
 
-pub returns-in-err-b : goal.returns-in-err-b
-returns-in-err-b c =
-    let r = err_from_is_err_and c.from-residual-in-err-b.result c.from-residual-in-err-b.ensures.1 in
-    rw (r.1, r.2) (no_tail c.args.bytes.now 2 _ c.in-err-b.ensures (four-cut2 c.args.bytes.now c.args.lead c.requires.0))
+pub returns-in_err-b : goal.returns-in_err-b
+returns-in_err-b c =
+    let r = err_from_is_err_and c.from_residual-in_err-b.result c.from_residual-in_err-b.ensures.1 in
+    rw (r.1, r.2) (no_tail c.args.bytes.now 2 _ c.in_err-b.ensures (four-cut2 c.args.bytes.now c.args.lead c.requires.bytes_value))
 
-pub returns-in-err-c : goal.returns-in-err-c
-returns-in-err-c c =
-    let r = err_from_is_err_and c.from-residual-in-err-c.result c.from-residual-in-err-c.ensures.1 in
-    rw (r.1, r.2) (no_tail c.args.bytes.now 3 _ c.in-err-c.ensures (four-cut3 c.args.bytes.now c.args.lead c.requires.0))
+pub returns-in_err-c : goal.returns-in_err-c
+returns-in_err-c c =
+    let r = err_from_is_err_and c.from_residual-in_err-c.result c.from_residual-in_err-c.ensures.1 in
+    rw (r.1, r.2) (no_tail c.args.bytes.now 3 _ c.in_err-c.ensures (four-cut3 c.args.bytes.now c.args.lead c.requires.bytes_value))
 
-pub returns-in-err-character : goal.returns-in-err-character
-returns-in-err-character c =
-    let r = err_from_is_err_and c.from-residual-in-err-character.result c.from-residual-in-err-character.ensures.1 in
-    rw (r.1, r.2) (no_scalar enc8 c.args.bytes.now _ _ c.in-err-character.ensures (four-other c.args.bytes.now c.args.lead c.in-ok-a.a c.in-ok-b.b c.in-ok-c.c c.requires.0 c.in-ok-a.ensures c.in-ok-b.ensures c.in-ok-c.ensures))
+pub returns-in_err-character : goal.returns-in_err-character
+returns-in_err-character c =
+    let r = err_from_is_err_and c.from_residual-in_err-character.result c.from_residual-in_err-character.ensures.1 in
+    rw (r.1, r.2) (no_scalar enc8 c.args.bytes.now _ _ c.in_err-character.ensures (four-other c.args.bytes.now c.args.lead c.in_ok-a.a c.in_ok-b.b c.in_ok-c.c c.requires.bytes_value c.in_ok-a.ensures c.in_ok-b.ensures c.in_ok-c.ensures))
 
 pub returns-then-v-lt65536 : goal.returns-then-v-lt65536
-returns-then-v-lt65536 c = (refl, four-long c.args.bytes.now c.args.lead c.in-ok-a.a c.in-ok-b.b c.in-ok-c.c c.requires.0 c.in-ok-a.ensures c.in-ok-b.ensures c.in-ok-c.ensures c.if-v-lt65536.true)
+returns-then-v-lt65536 c = (refl, four-long c.args.bytes.now c.args.lead c.in_ok-a.a c.in_ok-b.b c.in_ok-c.c c.requires.bytes_value c.in_ok-a.ensures c.in_ok-b.ensures c.in_ok-c.ensures c.if-v-lt65536.true)
 
 pub returns : goal.returns
 returns c =
-    answered enc8 c.args.bytes.now _ _ 4 c.in-ok-character.ensures
-    (four-found c.args.bytes.now c.args.lead c.in-ok-a.a c.in-ok-b.b c.in-ok-c.c c.requires.0 c.in-ok-a.ensures c.in-ok-b.ensures c.in-ok-c.ensures c.if-v-lt65536.false)
+    answered enc8 c.args.bytes.now _ _ 4 c.in_ok-character.ensures
+    (four-found c.args.bytes.now c.args.lead c.in_ok-a.a c.in_ok-b.b c.in_ok-c.c c.requires.bytes_value c.in_ok-a.ensures c.in_ok-b.ensures c.in_ok-c.ensures c.if-v-lt65536.false)

@@ -10,7 +10,7 @@ pub loop-at-preserved : goal.loop-at-preserved
 loop-at-preserved g c =
     let enc = g.C.TextCode.enc in
     let cs = g.M.Medium.cells c.args.m.now in
-    let p = subst (λ x. PartAt enc cs c.args.place (c.args.place + 16384) c.loop-at.at (Ok x)) c.in-Text.is c.in-ok-writable.ensures in
+    let p = subst (λ x. PartAt enc cs c.args.place (c.args.place + 16384) c.loop-at.at (Ok x)) c.in-Text.is c.in_ok-writable.ensures in
     more c.loop-at.at c.in-Text.behind c.loop-at.invariant p.0 p.1
 
 pub returns-else-at-size : goal.returns-else-at-size

@@ -11,7 +11,7 @@ loop-at-preserved g c = λ p low high w x.
     ⊎_elim (λ h. c.loop-at.invariant p low h w x)
     (λ h.
     let same : p ≡ c.loop-at.at = omega arith in
-    c.in-default.ensures w (subst (λ (k : ℕ). Ends g.C.TextCode.enc (g.M.Medium.cells c.args.m.now) (Trailer (mode_of w)) k (Some c.args.end)) same x))
+    c.in_default.ensures w (subst (λ (k : ℕ). Ends g.C.TextCode.enc (g.M.Medium.cells c.args.m.now) (Trailer (mode_of w)) k (Some c.args.end)) same x))
     (cases_lt p c.loop-at.at)
 
 pub returns : goal.returns

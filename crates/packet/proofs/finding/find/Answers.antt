@@ -4,8 +4,8 @@ use Rattle.packet.specs.Finds.{FirstTrailer}
 use Rattle.packet.proofs.Bodies.{header-inside, refused, spans}
 use Rattle.packet.proofs.finding.find.Goals as goal
 
-pub first-trailer-requires : goal.first-trailer-requires
-first-trailer-requires g c =
+pub first_trailer-requires : goal.first_trailer-requires
+first_trailer-requires g c =
     let enc = g.C.TextCode.enc in
     let unit = g.C.TextCode.unit in
     let laws = g.C.TextCode.laws in
@@ -15,14 +15,14 @@ first-trailer-requires g c =
     let b = g.M.Medium.bounded c.args.m.now in
     omega arith
 
-pub returns-in-err-writable : goal.returns-in-err-writable
-returns-in-err-writable g c =
+pub returns-in_err-writable : goal.returns-in_err-writable
+returns-in_err-writable g c =
     let enc = g.C.TextCode.enc in
     let cs = g.M.Medium.cells c.args.m.now in
     let h = c.in-Some.ensures in
-    let p = err_from_is_err_and c.from-residual.result c.from-residual.ensures.1 in
+    let p = err_from_is_err_and c.from_residual.result c.from_residual.ensures.1 in
     rw (p.1, p.2)
-    (refused enc g.C.TextCode.unit g.C.TextCode.laws cs g.C.TextCode.unit c.in-Some.place c.in-Some.start _ h c.in-err-writable.ensures)
+    (refused enc g.C.TextCode.unit g.C.TextCode.laws cs g.C.TextCode.unit c.in-Some.place c.in-Some.start _ h c.in_err-writable.ensures)
 
 pub overflow_sub-extent : goal.overflow_sub-extent
 overflow_sub-extent g c =
@@ -31,21 +31,21 @@ overflow_sub-extent g c =
     let laws = g.C.TextCode.laws in
     let cs = g.M.Medium.cells c.args.m.now in
     let h = c.in-Some.ensures in
-    let s = spans enc unit laws cs unit c.in-Some.place c.in-Some.start c.in-ok-writable.writable c.in-ok-writable.end h c.in-ok-writable.ensures in
+    let s = spans enc unit laws cs unit c.in-Some.place c.in-Some.start c.in_ok-writable.writable c.in_ok-writable.end h c.in_ok-writable.ensures in
     s.0
 
-pub invariant-of-extent : goal.invariant-of-extent
-invariant-of-extent g c =
+pub invariant_of-extent : goal.invariant_of-extent
+invariant_of-extent g c =
     let enc = g.C.TextCode.enc in
     let unit = g.C.TextCode.unit in
     let laws = g.C.TextCode.laws in
     let cs = g.M.Medium.cells c.args.m.now in
     let h = c.in-Some.ensures in
-    let t = c.in-ok-writable.ensures in
+    let t = c.in_ok-writable.ensures in
     let l = t.3 in
     let b = g.M.Medium.bounded c.args.m.now in
-    let s = spans enc unit laws cs unit c.in-Some.place c.in-Some.start c.in-ok-writable.writable c.in-ok-writable.end h t in
-    (omega arith, (omega arith, tt))
+    let s = spans enc unit laws cs unit c.in-Some.place c.in-Some.start c.in_ok-writable.writable c.in_ok-writable.end h t in
+    record { short = omega arith; inside = omega arith }
 
 pub returns : goal.returns
 returns g c =
@@ -54,8 +54,8 @@ returns g c =
     let laws = g.C.TextCode.laws in
     let cs = g.M.Medium.cells c.args.m.now in
     let h = c.in-Some.ensures in
-    let t = c.in-ok-writable.ensures in
+    let t = c.in_ok-writable.ensures in
     let l = t.3 in
-    let s = spans enc unit laws cs unit c.in-Some.place c.in-Some.start c.in-ok-writable.writable c.in-ok-writable.end h t in
-    let e : c.in-ok-writable.end ≡ c.in-Some.place + (c.in-ok-writable.end - c.in-Some.place) = omega arith in
-    (c.in-Some.start, h, subst (λ n. FirstTrailer enc cs c.in-Some.place c.in-Some.start (Ok (c.in-ok-writable.writable, n))) e t, omega arith)
+    let s = spans enc unit laws cs unit c.in-Some.place c.in-Some.start c.in_ok-writable.writable c.in_ok-writable.end h t in
+    let e : c.in_ok-writable.end ≡ c.in-Some.place + (c.in_ok-writable.end - c.in-Some.place) = omega arith in
+    (c.in-Some.start, h, subst (λ n. FirstTrailer enc cs c.in-Some.place c.in-Some.start (Ok (c.in_ok-writable.writable, n))) e t, omega arith)

@@ -5,28 +5,28 @@ use Rattle.packet.proofs.header.+close_at.Goals as goal
 not-both : (b : Bool) → b ≡ false → b ≡ true → ⊥
 not-both b p q = let z : ◌≡◌ {A = ℕ} 0 1 = cc in omega arith
 
-pub returns-in-err-c : goal.returns-in-err-c
-returns-in-err-c g t c =
-    rw c.from-residual.ensures
-    (parse.close_none g.C.TextCode.enc g.C.TextCode.unit g.C.TextCode.laws (g.M.Medium.cells c.args.m.now) c.args.left c.args.question c.args.at c.in-err-c.ensures)
+pub returns-in_err-c : goal.returns-in_err-c
+returns-in_err-c g t c =
+    rw c.from_residual.ensures
+    (parse.close_none g.C.TextCode.enc g.C.TextCode.unit g.C.TextCode.laws (g.M.Medium.cells c.args.m.now) c.args.left c.args.question c.args.at c.in_err-c.ensures)
 
 pub returns-then-c-eq62 : goal.returns-then-c-eq62
 returns-then-c-eq62 g t c =
-    let s = c.in-ok-c.ensures in
-    parse.close_here g.C.TextCode.enc g.C.TextCode.unit g.C.TextCode.laws (g.M.Medium.cells c.args.m.now) c.args.left c.args.question c.args.at c.in-ok-c.c c.in-ok-c.behind c.if-question.true c.if-c-eq62.true s.0 s.1 s.2
+    let s = c.in_ok-c.ensures in
+    parse.close_here g.C.TextCode.enc g.C.TextCode.unit g.C.TextCode.laws (g.M.Medium.cells c.args.m.now) c.args.left c.args.question c.args.at c.in_ok-c.c c.in_ok-c.behind c.if-question.true c.if-c-eq62.true s.0 s.1 s.2
 
 pub returns-then-left-eq0 : goal.returns-then-left-eq0
 returns-then-left-eq0 g t c =
-    let s = c.in-ok-c.ensures in
-    let far : c.args.question ≡ true → c.in-ok-c.c ≡ 62 → ⊥ = λ pt ce.
+    let s = c.in_ok-c.ensures in
+    let far : c.args.question ≡ true → c.in_ok-c.c ≡ 62 → ⊥ = λ pt ce.
     ⊎_elim (λ w. w.1 ce) (λ w. not-both c.args.question w pt) c.else-question.either in
-    let bad : 1 ≤ c.args.left → c.in-ok-c.c ≢ 60 → ⊥ = λ some ne.
+    let bad : 1 ≤ c.args.left → c.in_ok-c.c ≢ 60 → ⊥ = λ some ne.
     ⊎_elim (λ w. omega arith) (λ w. ne w.1) c.then-left-eq0.either in
-    parse.close_stop g.C.TextCode.enc g.C.TextCode.unit g.C.TextCode.laws (g.M.Medium.cells c.args.m.now) c.args.left c.args.question c.args.at c.in-ok-c.c far bad s.0 s.1
+    parse.close_stop g.C.TextCode.enc g.C.TextCode.unit g.C.TextCode.laws (g.M.Medium.cells c.args.m.now) c.args.left c.args.question c.args.at c.in_ok-c.c far bad s.0 s.1
 
 pub returns : goal.returns
 returns g t c =
-    let s = c.in-ok-c.ensures in
-    let far : c.args.question ≡ true → c.in-ok-c.c ≡ 62 → ⊥ = λ pt ce.
+    let s = c.in_ok-c.ensures in
+    let far : c.args.question ≡ true → c.in_ok-c.c ≡ 62 → ⊥ = λ pt ce.
     ⊎_elim (λ w. w.1 ce) (λ w. not-both c.args.question w pt) c.else-question.either in
-    parse.close_more g.C.TextCode.enc g.C.TextCode.unit g.C.TextCode.laws (g.M.Medium.cells c.args.m.now) c.args.left c.args.question c.args.at c.in-ok-c.c c.in-ok-c.behind c.close-at.result far (omega arith) c.if-c-eq60.false s.0 s.1 s.2 c.close-at.ensures
+    parse.close_more g.C.TextCode.enc g.C.TextCode.unit g.C.TextCode.laws (g.M.Medium.cells c.args.m.now) c.args.left c.args.question c.args.at c.in_ok-c.c c.in_ok-c.behind c.close_at.result far (omega arith) c.if-c-eq60.false s.0 s.1 s.2 c.close_at.ensures

@@ -1,4 +1,4 @@
 use Rattle.packet.proofs.header.+close_at.Given as goal
 
-abbrev pub decreases-close-at : goal.decreases-close-at
-decreases-close-at g l = l.left
+abbrev pub decreases-close_at : goal.decreases-close_at
+decreases-close_at g l = l.left

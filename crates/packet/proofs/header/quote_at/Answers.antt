@@ -9,6 +9,6 @@ scalar q x = (omega arith, λ h. omega arith)
 
 pub returns-else-c-eq39 : goal.returns-else-c-eq39
 returns-else-c-eq39 g c = λ q isq h.
-    let s = c.in-ok-c.ensures in
-    let same : c.in-ok-c.c ≡ q = only g.C.TextCode.enc g.C.TextCode.unit g.C.TextCode.laws (g.M.Medium.cells c.args.m.now) c.args.at c.in-ok-c.c q s.0 (scalar q isq) s.1 h in
+    let s = c.in_ok-c.ensures in
+    let same : c.in_ok-c.c ≡ q = only g.C.TextCode.enc g.C.TextCode.unit g.C.TextCode.laws (g.M.Medium.cells c.args.m.now) c.args.at c.in_ok-c.c q s.0 (scalar q isq) s.1 h in
     omega arith

@@ -6,4 +6,4 @@ pub returns : goal.returns
 returns c =
     let s = 512 * c.args.k in
     let t : (s + 508) - s ≡ 508 = omega arith in
-    (omega arith, c.from-be-bytes-stored.ensures, c.weigh-due.ensures ∙ ap (λ n. check_of (take n (drop s c.args.bytes.now))) t)
+    (omega arith, c.from_be_bytes-stored.ensures, c.weigh-due.ensures ∙ ap (λ n. check_of (take n (drop s c.args.bytes.now))) t)

@@ -11,4 +11,4 @@ returns c =
     let bs = set c.args.bytes.now (s + c.args.i) c.args.b in
     let t : (s + 508) - s ≡ 508 = omega arith in
     let e : c.weigh.result ≡ check_of (data_at bs c.args.k) = c.weigh.ensures ∙ ap (λ n. check_of (take n (drop s bs))) t in
-    record { renewed = checked-as bs c.args.k _ _ _ c.to-be-bytes-due.ensures e; bound = omega arith }
+    record { renewed = checked-as bs c.args.k _ _ _ c.to_be_bytes-due.ensures e; bound = omega arith }

@@ -21,7 +21,7 @@ returns-then-bytes-lt4 g c =
     let o = g.O.ByteOrder.order in
     let bs = c.args.bytes.now in
     let e = first-unit pair o bs c.join.result c.from-lead.result (omega arith) c.join.ensures c.from-lead.ensures in
-    let n = not_scalar c.from-lead.result _ c.in-default.ensures in
+    let n = not_scalar c.from-lead.result _ c.in_default.ensures in
     (refl, two-cut pair o bs c.from-lead.result (omega arith) e n (omega arith))
 
 pub returns-then-lead-ge56320 : goal.returns-then-lead-ge56320
@@ -31,7 +31,7 @@ returns-then-lead-ge56320 g c =
     let bs = c.args.bytes.now in
     let d = first-unit pair o bs c.join.result c.from-lead.result (omega arith) c.join.ensures c.from-lead.ensures in
     let e = second_unit pair o bs c.join-2.result c.from-trail.result (omega arith) c.join-2.ensures c.from-trail.ensures in
-    let n = not_scalar c.from-lead.result _ c.in-default.ensures in
+    let n = not_scalar c.from-lead.result _ c.in_default.ensures in
     (refl, two-other pair o bs c.from-lead.result c.from-trail.result (omega arith) (omega arith) d e n (λ p q r. omega (arith, c.then-lead-ge56320.either)))
 
 pub returns : goal.returns
@@ -41,6 +41,6 @@ returns g c =
     let bs = c.args.bytes.now in
     let d = first-unit pair o bs c.join.result c.from-lead.result (omega arith) c.join.ensures c.from-lead.ensures in
     let e = second_unit pair o bs c.join-2.result c.from-trail.result (omega arith) c.join-2.ensures c.from-trail.ensures in
-    let n = not_scalar c.from-lead.result _ c.in-default.ensures in
-    answered (enc16 pair) bs _ _ 4 c.in-ok-character.ensures
+    let n = not_scalar c.from-lead.result _ c.in_default.ensures in
+    answered (enc16 pair) bs _ _ 4 c.in_ok-character.ensures
     (two-found pair o bs c.from-lead.result c.from-trail.result n (omega arith) (omega arith) (omega arith) d e)

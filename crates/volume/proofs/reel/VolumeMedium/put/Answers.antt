@@ -19,13 +19,13 @@ renew-requires c =
     let v = c.args.self.now in
     let e = vol.size v.sound v.bytes.now in
     let w = vol.within (length v.bytes.now) c.args.at (omega arith) in
-    (w.0, omega arith)
+    record { k_bound = w.0; i_bound = omega arith }
 
 pub returns-then-self-k : goal.returns-then-self-k
 returns-then-self-k c =
     let v = c.args.self.now in
     let bs = v.bytes.now in
-    let n = v.bytes.name in
+    let n = v.bytes.ghost_name in
     let e = vol.size v.sound bs in
     let h : c.args.at < 508 * blocks bs = omega arith in
     let t = c.if-self-k.true in

@@ -1,5 +1,5 @@
 -- Classes of characters: what XML 1.0 allows, and what names and language tags are made of.
-use Rattle.std.specs.Prelude.{ℕ, ◌≤◌, Bool, true, false, cond, ◌&&◌, ◌||◌, ◌⊎◌, List, [], ◌∷◌, ◌++◌, nat_le}
+use Rattle.std.specs.Prelude.{ℕ, ◌≤◌, Bool, false, cond, ◌&&◌, ◌||◌, ◌⊎◌, List, [], ◌∷◌, ◌++◌, nat_le}
 
 -- ranges of character numbers, each from its first to its last
 abbrev pub Ranges : Type 0

@@ -1,6 +1,6 @@
 -- That each test of a class decides its ranges.
-use Rattle.std.specs.Prelude.{◌≡◌, ℕ, ◌≤◌, Bool, true, false, ◌⊎◌, List, [], ◌∷◌, ◌++◌, Decides, nat_le}
-use Rattle.std.proofs.Common.{sym, inl, inr, ⊎_elim}
+use Rattle.std.specs.Prelude.{◌≡◌, ℕ, ◌≤◌, Bool, false, ◌⊎◌, [], ◌∷◌, ◌++◌, Decides, nat_le}
+use Rattle.std.proofs.Common.{inl, inr, ⊎_elim}
 use Rattle.std.proofs.lemmas.Bool.{false≢true, leb-true, le-leb, cases_Bool}
 use Rattle.std.proofs.lemmas.Bool.Decides.{Decides-and, Decides-or}
 use Rattle.characters.specs.Classes.{Ranges, In, within, xml_ranges, white_ranges, tag_ranges, local_at, name_at, is_xml, is_white, is_tag, is_local, is_name}

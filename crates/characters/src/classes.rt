@@ -6,6 +6,7 @@ ghost use Rattle.characters.specs.Classes.{is_local, is_name, is_tag, is_white, 
 ghost use Rattle.characters.specs.Theorems.{ClassesDecided, NamesPlain};
 
 // A character of XML 1.0.
+#[tactic(auto, unfolding(crate::specs::Classes::is_xml))]
 pub fn is_xml_char(c: char) -> bool
     ensures { result ≡ is_xml c }
 {
@@ -17,6 +18,7 @@ pub fn is_xml_char(c: char) -> bool
 }
 
 // Tab, line feed, carriage return and space.
+#[tactic(auto, unfolding(crate::specs::Classes::is_white))]
 pub fn is_white_space(c: char) -> bool
     ensures { result ≡ is_white c }
 {
@@ -27,6 +29,7 @@ pub fn is_white_space(c: char) -> bool
 }
 
 // A character of a local name: ASCII letters and `_`, and behind the first also digits, `.` and `-`.
+#[tactic(auto, unfolding(crate::specs::Classes::is_local))]
 pub fn is_local_name_char(c: char, first: bool) -> bool
     ensures { result ≡ is_local first c }
 {
@@ -38,6 +41,7 @@ pub fn is_local_name_char(c: char, first: bool) -> bool
 }
 
 // A character of a language tag: ASCII letters, digits and `-`.
+#[tactic(auto, unfolding(crate::specs::Classes::is_tag))]
 pub fn is_language_tag_char(c: char) -> bool
     ensures { result ≡ is_tag c }
 {
@@ -48,6 +52,7 @@ pub fn is_language_tag_char(c: char) -> bool
 }
 
 // A character of a name of XML 1.0 (fifth edition) that has no colon.
+#[tactic(auto, unfolding(crate::specs::Classes::is_name))]
 pub fn is_name_char(c: char, first: bool) -> bool
     ensures { result ≡ is_name first c }
 {

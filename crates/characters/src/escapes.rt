@@ -14,6 +14,7 @@ pub enum Where {
 }
 
 // The entity or the numeric reference by which a character must be spelt, or None where it stands for itself.
+#[tactic(auto, unfolding(crate::specs::Spelling::spelling))]
 pub fn escape(c: char, place: Where) -> Option<&'static str>
     ensures { Escaped place c result }
 {

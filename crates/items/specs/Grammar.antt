@@ -3,7 +3,7 @@
 use Rattle.std.specs.Prelude.{◌≡◌, ℕ, ◌+◌, ◌-◌, ◌*◌, Bool, true, false, cond, ◌&&◌, ◌||◌, ◌≢◌, ◌⊎◌, List, [], ◌∷◌, ◌++◌, length, codes, ◌==◌, nat_le}
 use Rattle.std.specs.List.{AllByRecursion as All}
 use Rattle.characters.specs.Classes.{is_white}
-use Rattle.names.specs.Order.{Text, same}
+use Rattle.names.specs.Order.{Text}
 use Rattle.items.specs.Tokens.{QName, written, NcName, IsQName, Piece, literal, Attr, Token, Start, Empty, End, Comment, Instruction, Doctype, Cdata, Words}
 
 -- things spelt one after the other

@@ -1,5 +1,5 @@
 -- The items of marked-up text, and what is kept of each.
-use Rattle.std.specs.Prelude.{◌≡◌, ℕ, ◌+◌, Bool, true, false, cond, ◌&&◌, ◌||◌, List, [], ◌∷◌, ◌++◌, length, nat_lt}
+use Rattle.std.specs.Prelude.{◌≡◌, ℕ, ◌+◌, true, false, cond, List, [], ◌∷◌, ◌++◌, length, nat_lt}
 use Rattle.std.specs.List.{AllByRecursion as All}
 use Rattle.characters.specs.Classes.{is_name}
 use Rattle.names.specs.Order.{Text}

@@ -3,7 +3,7 @@ use Rattle.std.specs.Prelude.{◌≡◌, ℕ, ◌+◌, ◌-◌, true, List, [], 
 use Rattle.std.specs.List.{AllByRecursion as All}
 use Rattle.characters.specs.Classes.{is_white}
 use Rattle.names.specs.Order.{Text, Name}
-use Rattle.items.specs.Tokens.{QName, Piece, chars, Attr, Token, Start, Empty, End, Comment, Instruction, Words}
+use Rattle.items.specs.Tokens.{QName, Piece, chars, Attr, Start, Empty, End, Comment, Instruction, Words}
 use Rattle.items.specs.Grammar.{Item}
 use Rattle.xml.specs.Namespaces.{Scope, base, in_force, element_name, Field, fields}
 

@@ -1,6 +1,6 @@
 -- Texts and values as they are spelt: the pieces that they are read as.
 use Rattle.std.proofs.Common.{◌≡◌, ℕ, ◌+◌, Bool, true, false, cond, eqb, ◌≢◌, List, [], ◌∷◌, ◌++◌, length, codes, sym, refl, ap, subst, arith}
-use Rattle.std.specs.List.{AllByRecursion as All}
+use Rattle.std.specs.List.{AllByRecursion}
 use Rattle.std.proofs.lemmas.Bool.{eqb-true, eqb-false, cond_both, cond-false}
 use Rattle.std.proofs.lemmas.Bool.Decides.{not_from_Decides}
 use Rattle.characters.specs.Classes.{In, white_ranges, is_white}
@@ -81,14 +81,14 @@ no_greater c e =
     let v : length (spelling Content c) ≡ 4 = ap (λ x. length (spelling Content x)) d in
     omega arith
 
-no_greaters : (t : Text) → All (λ p. p ≡ literal 62 → ⊥) (pieces Content t)
+no_greaters : (t : Text) → AllByRecursion (λ p. p ≡ literal 62 → ⊥) (pieces Content t)
 no_greaters [] = tt
 no_greaters (c ∷ t) = (no_greater c, no_greaters t)
 
-buried : (ys zs : List Piece) → All (λ p. p ≡ literal 62 → ⊥) (ys ++ (literal 93 ∷ literal 93 ∷ literal 62 ∷ zs)) → ⊥
+buried : (ys zs : List Piece) → AllByRecursion (λ p. p ≡ literal 62 → ⊥) (ys ++ (literal 93 ∷ literal 93 ∷ literal 62 ∷ zs)) → ⊥
 buried [] zs h = h.1.1.0 refl
 buried (y ∷ ys) zs h = buried ys zs h.1
 
 -- a text that is not empty is a run, up to the next `<` or the end
 pub text_item : (c : ℕ) (t r : Text) → Stops r → Item (spellings Content (c ∷ t) ++ r) (Words (piece Content c) (pieces Content t)) r
-text_item c t r h = run (each-text (c ∷ t)) (λ ys zs e. buried ys zs (subst (All (λ p. p ≡ literal 62 → ⊥)) e (no_greaters (c ∷ t)))) h
+text_item c t r h = run (each-text (c ∷ t)) (λ ys zs e. buried ys zs (subst (AllByRecursion (λ p. p ≡ literal 62 → ⊥)) e (no_greaters (c ∷ t)))) h

@@ -1,6 +1,6 @@
 -- Good markup is walked without anything wrong, and what is read is what it means.
 use Rattle.std.proofs.Common.{◌≡◌, ℕ, suc, ◌+◌, ◌<◌, ◌≤◌, List, [], ◌∷◌, ◌++◌, length, Some, sym, refl, ap, ◌∙◌, subst, ap₂, append_assoc, arith}
-use Rattle.std.specs.List.{AllByRecursion as All}
+use Rattle.std.specs.List.{AllByRecursion}
 use Rattle.std.proofs.ByRecursion.{All-weaker}
 use Rattle.characters.specs.Spelling.{spellings}
 use Rattle.characters.specs.declared.escapes.Where.TheVariants.{Content as Running}
@@ -62,7 +62,7 @@ abbrev pub begun : ℕ → Text → List Attribute → Scope → Name → Frame
 begun p n as' sc m = frame_of p (name_of n) (attrs_of as') (in_force (attrs_of as') sc) m
 
 -- a start tag opens its element
-pub tag_opens : (gs : List Frame) (p : ℕ) (n : Text) (as' : List Attribute) (s : Text) {e : ℕ} {d : Context} {q : Text} (f : FineTag (scope_of gs) n as') → length gs < 32 → All (λ a. XmlText a.value) as'
+pub tag_opens : (gs : List Frame) (p : ℕ) (n : Text) (as' : List Attribute) (s : Text) {e : ℕ} {d : Context} {q : Text} (f : FineTag (scope_of gs) n as') → length gs < 32 → AllByRecursion (λ a. XmlText a.value) as'
     → Way (behind p (start_tag n as' ++ s) s) (building (begun p n as' (scope_of gs) f.means ∷ gs)) s e d q → Way p (building gs) (start_tag n as' ++ s) e d q
 tag_opens gs p n as' s {e} {d} {q} f l x w =
     step (start_item n as' s f.name f.names) (fine_start gs (name_of n) (attrs_of as') (fine_tag gs n as' f l)) (no_inner (Start (name_of n) (attrs_of as')) (attrs_xml as' _ x))
@@ -97,7 +97,7 @@ module _ (g : Frame) (gs : List Frame) (p : ℕ) (n : Text) (as' : List Attribut
   abbrev inner : Frame
   inner = begun p n as' g.scope f.means
 
-  element_walked : suc (length gs) < 32 → All (λ a. XmlText a.value) as'
+  element_walked : suc (length gs) < 32 → AllByRecursion (λ a. XmlText a.value) as'
       → (u : Walked inner (g ∷ gs) (behind p (start_tag n as' ++ (s ++ (end_tag n ++ b))) (s ++ (end_tag n ++ b))) (s ++ (end_tag n ++ b)) (end_tag n ++ b) (meaning inner.scope c))
       → Walked (grown g (element' p f.means inner.fields u.content nothing')) gs (behind u.place (end_tag n ++ b) b) b q (meaning g.scope r)
       → Walked g gs p (start_tag n as' ++ (s ++ (end_tag n ++ b))) q (meaning g.scope (element n as' c r))
@@ -120,7 +120,7 @@ tagged-stops nothing r h k = k
 tagged-stops (words t m) r h k = absurd h
 tagged-stops (element n as' c m) r h k = refl
 
-pub values_xml : (as' : List Attribute) → All (λ a. XmlText a.name × XmlText a.value) as' → All (λ a. XmlText a.value) as'
+pub values_xml : (as' : List Attribute) → AllByRecursion (λ a. XmlText a.name × XmlText a.value) as' → AllByRecursion (λ a. XmlText a.value) as'
 values_xml as' h = All-weaker _ _ (λ a k. k.1) as' h
 
 pub markup_walked : (m : Markup) (g : Frame) (gs : List Frame) (p : ℕ) (r : Text) → Good g.scope m → XmlMarkup m → suc (length gs) + opened m ≤ 32 → Stops r → Walked g gs p (markup_text m ++ r) r (meaning g.scope m)

@@ -1,6 +1,6 @@
 -- Walks over items with nothing wrong.
 use Rattle.std.proofs.Common.{◌≡◌, ℕ, ◌+◌, true, false, ltb, List, [], ◌∷◌, ◌++◌, length, sym, refl, subst, inl, inr}
-use Rattle.std.specs.List.{AllByRecursion as All}
+use Rattle.std.specs.List.{AllByRecursion}
 use Rattle.std.proofs.ByRecursion.{All-append}
 use Rattle.std.proofs.lemmas.Bool.{both_ways, cond_both}
 use Rattle.characters.specs.Classes.{is_xml}
@@ -47,22 +47,22 @@ way_on (go h i w) g = go h i (way_on w g)
 abbrev Named-xml : ℕ × ℕ → Type 0
 Named-xml x = is_xml x.1 ≡ true
 
-member_all : {A : Type 0} (P : A → Type 0) (x : A) (xs : List A) → All P xs → Member x xs → P x
+member_all : {A : Type 0} (P : A → Type 0) (x : A) (xs : List A) → AllByRecursion P xs → Member x xs → P x
 member_all P x [] h m = absurd m
 member_all P x (y ∷ ys) h (inl e) = subst P (sym e) h.0
 member_all P x (y ∷ ys) h (inr m) = member_all P x ys h.1 m
 
-pub no_inner : (t : Token) → All Named-xml (references_of t) → (k n : ℕ) → Inner t k n → ⊥
+pub no_inner : (t : Token) → AllByRecursion Named-xml (references_of t) → (k n : ℕ) → Inner t k n → ⊥
 no_inner t h k n (refers c m e) = both_ways (is_xml c) e (member_all Named-xml (k, c) (references_of t) h m)
 
 -- those of spelt texts and values
-pub pieces-xml : (k : ℕ) (w : Where) (t : Text) → XmlText t → All Named-xml (references k (pieces w t))
+pub pieces-xml : (k : ℕ) (w : Where) (t : Text) → XmlText t → AllByRecursion Named-xml (references k (pieces w t))
 pieces-xml k w [] h = tt
 pieces-xml k w (c ∷ t) h =
     let j : ℕ = k + length (spelling w c) in
     let l = pieces-xml j w t h.1 in
-    cond_both (ltb 1 (length (spelling w c))) ((k, c) ∷ references j (pieces w t)) (references j (pieces w t)) (All Named-xml) (λ _. (h.0, l)) (λ _. l)
+    cond_both (ltb 1 (length (spelling w c))) ((k, c) ∷ references j (pieces w t)) (references j (pieces w t)) (AllByRecursion Named-xml) (λ _. (h.0, l)) (λ _. l)
 
-pub attrs_xml : (as' : List Attribute) (k : ℕ) → All (λ a. XmlText a.value) as' → All Named-xml (attr_references k (attrs_of as'))
+pub attrs_xml : (as' : List Attribute) (k : ℕ) → AllByRecursion (λ a. XmlText a.value) as' → AllByRecursion Named-xml (attr_references k (attrs_of as'))
 attrs_xml [] k h = tt
 attrs_xml (a ∷ as') k h = All-append Named-xml (references _ (pieces Quoted a.value)) _ (pieces-xml _ Quoted a.value h.0) (attrs_xml as' _ h.1)

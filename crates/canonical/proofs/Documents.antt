@@ -8,7 +8,7 @@ use Rattle.names.specs.Reserved.{rdf_uri}
 use Rattle.tree.specs.Tree.{Tree}
 use Rattle.tree.specs.Lawful.{Lawful, Fields, namespaces}
 use Rattle.names.proofs.Deciding.{xml_decides}
-use Rattle.markup.specs.Elements.{Attribute, Markup, nothing, element, opened, attributes, bindings}
+use Rattle.markup.specs.Elements.{Attribute, Markup, nothing, element}
 use Rattle.markup.specs.Clean.{PlainNames, XmlMarkup}
 use Rattle.canonical.specs.Prefixes.{declared_from}
 use Rattle.canonical.specs.Document.{elements, document}

@@ -1,10 +1,10 @@
 -- The elements by which a tree is written.
-use Rattle.std.specs.Prelude.{ℕ, Bool, true, false, cond, not, ◌||◌, List, [], ◌∷◌, ◌++◌, codes}
+use Rattle.std.specs.Prelude.{Bool, true, false, cond, not, ◌||◌, List, [], ◌∷◌, ◌++◌, codes}
 use Rattle.tree.specs.declared.form.Form.{Form}
 use Rattle.tree.specs.declared.form.Form.TheVariants.{Text as TextForm, Uri, Structure, Bag, Sequence, Alternative}
-use Rattle.names.specs.Order.{Text, Name, same_name}
+use Rattle.names.specs.Order.{Text, same_name}
 use Rattle.names.specs.Reserved.{lang_name, rdf_uri}
-use Rattle.tree.specs.Tree.{Label, named, item, Head, Nodes, none, more, Tree}
+use Rattle.tree.specs.Tree.{Label, named, item, Nodes, none, more, Tree}
 use Rattle.tree.specs.Lawful.{namespaces}
 use Rattle.markup.specs.Elements.{Attribute, Markup, nothing, element, textual}
 use Rattle.canonical.specs.Prefixes.{qualified, declared_from}

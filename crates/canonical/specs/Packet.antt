@@ -1,5 +1,5 @@
 -- The canonical text of a tree, and a packet filled with it.
-use Rattle.std.specs.Prelude.{ℕ, ◌-◌, ◌/◌, ◌%◌, cond, List, [], ◌∷◌, ◌++◌, map, length, Ok, Err, codes, Result, ◌==◌, nat_le}
+use Rattle.std.specs.Prelude.{ℕ, ◌-◌, ◌/◌, ◌%◌, cond, List, ◌∷◌, ◌++◌, map, length, Ok, Err, codes, Result, ◌==◌, nat_le}
 use Rattle.std.specs.List.{range_with_len}
 use Rattle.text.specs.Stands.{bytes_of}
 use Rattle.packet.specs.Texts.{packet_id}

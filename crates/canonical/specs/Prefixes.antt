@@ -1,5 +1,5 @@
 -- The prefixes that stand for namespaces in canonical text.
-use Rattle.std.specs.Prelude.{ℕ, ◌+◌, ◌/◌, ◌%◌, Bool, true, false, cond, ◌||◌, List, [], ◌∷◌, ◌++◌, codes, nat_lt}
+use Rattle.std.specs.Prelude.{ℕ, ◌+◌, ◌/◌, ◌%◌, Bool, cond, ◌||◌, List, [], ◌∷◌, ◌++◌, codes, nat_lt}
 use Rattle.names.specs.Order.{Text, Name, same}
 use Rattle.markup.specs.Elements.{Attribute}
 

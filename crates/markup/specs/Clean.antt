@@ -1,10 +1,9 @@
 -- Markup that a reader takes for elements and texts alone.
-use Rattle.std.specs.Prelude.{◌≡◌, ℕ, true, ◌≢◌, List, [], ◌∷◌, ◌++◌}
+use Rattle.std.specs.Prelude.{◌≢◌, [], ◌∷◌, ◌++◌}
 use Rattle.std.specs.List.{AllByRecursion as All}
-use Rattle.characters.specs.Classes.{is_xml}
 use Rattle.names.specs.Order.{Text}
 use Rattle.names.specs.Xml.{XmlText}
-use Rattle.markup.specs.Elements.{Attribute, Markup, nothing, words, element, markup_text}
+use Rattle.markup.specs.Elements.{Markup, nothing, words, element, markup_text}
 
 -- a name as it is written, so far as this matters: not empty, no `<` in it, and `?` is not its first character
 abbrev pub PlainName : Text → Type 0

@@ -1,5 +1,5 @@
 -- Elements, attributes and texts, and how they are spelt.
-use Rattle.std.specs.Prelude.{◌≡◌, ℕ, suc, ◌+◌, ◌≤◌, max, Bool, true, false, cond, eqb, List, [], ◌∷◌, ◌++◌, length, take, codes}
+use Rattle.std.specs.Prelude.{ℕ, suc, ◌+◌, max, Bool, true, cond, List, [], ◌∷◌, ◌++◌, length, take, codes}
 use Rattle.characters.specs.Spelling.{spellings}
 use Rattle.characters.specs.declared.escapes.Where.TheVariants.{Content, Attribute as Quoted}
 use Rattle.names.specs.Order.{Text, same}

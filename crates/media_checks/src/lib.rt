@@ -41,8 +41,8 @@ pub fn put_then_fetch<M: Medium>(
     at: usize,
     b: u8,
 ) -> Result<u8, MediumFault>
-    ensures put { PutFetched (cells m.old) (window from len (cells m.old)) from at b (cells m.new) result }
-    ensures kept { kept m.old m.new }
+    ensures put { PutFetched (M.Medium.cells m.old) (window from len (M.Medium.cells m.old)) from at b (M.Medium.cells m.new) result }
+    ensures kept { M.Medium.kept m.old m.new }
 {
     let mut part = Window::new(&mut *m, from, len);
     part.put(at, b)?;

@@ -18,7 +18,7 @@ pub enum AnyFound {
 
 // The packet whose header is the lowest among the codes. From there on only that code counts.
 pub fn find_any<M: Medium>(m: &M) -> Result<AnyFound, PacketFault>
-    ensures { MatchResult result (FoundAny (cells m.now)) (NoneInAny (cells m.now)) }
+    ensures { MatchResult result (FoundAny (M.Medium.cells m.now)) (NoneInAny (M.Medium.cells m.now)) }
 {
     let utf8 = lowest_header::<Utf8, M>(m);
     let big = lowest_header::<Utf16Be, M>(m);

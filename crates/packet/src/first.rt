@@ -44,7 +44,7 @@ fn header_behind<C: TextCode, M: Medium>(m: &M, at: usize, lead: u8) -> Option<u
 }
 
 fn holds_byte<M: Medium>(m: &M, at: usize, b: u8) -> bool
-    ensures { HoldsByte (cells m.now) at b result }
+    ensures { HoldsByte (M.Medium.cells m.now) at b result }
 {
     match m.fetch(at) {
         Ok(found) => found == b,

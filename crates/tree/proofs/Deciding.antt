@@ -1,14 +1,12 @@
 -- Each test of the rules answers whether its rule is kept.
-use Rattle.std.proofs.Common.{◌≡◌, ℕ, ◌+◌, ◌≤◌, Bool, true, false, not, ◌&&◌, eqb, ltb, leb, ◌⊎◌, [], ◌∷◌, length, Decides, refl, ap, subst, ap₂, inl, inr}
+use Rattle.std.proofs.Common.{◌≡◌, ℕ, ◌+◌, ◌≤◌, true, false, not, leb, [], ◌∷◌, length, Decides, refl}
 use Rattle.std.proofs.lemmas.Bool.{leb-true, le-leb, false≢true}
-use Rattle.std.proofs.lemmas.Bool.Decides.{Decides-eqb, Decides-ltb, Decides-and, Decides-or, Decides-not, Decides-like, not_from_Decides, same_from_decides}
+use Rattle.std.proofs.lemmas.Bool.Decides.{Decides-and, Decides-or, Decides-not, Decides-like}
 use Rattle.std.proofs.ByRecursion.{Decides-by_and}
-use Rattle.characters.specs.Classes.{is_xml, is_local, is_tag}
-use Rattle.names.specs.Order.{Text, Before, same, before, Name, NameBefore, same_name, name_before}
-use Rattle.names.specs.Xml.{XmlText}
+use Rattle.characters.specs.Classes.{is_local, is_tag}
+use Rattle.names.specs.Order.{Text, same, Name, same_name}
 use Rattle.tree.specs.Names.{LocalName, LanguageTag, FreeNamespace, LawfulName, QualifierName}
 use Rattle.names.specs.Reserved.{rdf_uri, xml_uri, xmlns_uri, lang_name}
-use Rattle.names.specs.Xml.{all_xml}
 use Rattle.tree.specs.Names.{all_local, is_local_name, all_tag, is_language_tag, is_free_namespace, is_lawful_name, is_qualifier_name}
 use Rattle.names.proofs.Deciding.{each-decides, same-decides, same_name-decides}
 use Rattle.tree.specs.Tree.{Label, named, item, Nodes, none, more, Tree}

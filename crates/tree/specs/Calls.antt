@@ -1,10 +1,10 @@
 -- The calls with a path: get, set, make and remove, as functions of a tree.
-use Rattle.std.specs.Prelude.{ℕ, Bool, true, false, cond, not, ◌&&◌, List, [], ◌∷◌, length, Some, None, Ok, Err, Option, Result}
+use Rattle.std.specs.Prelude.{Bool, true, false, not, ◌&&◌, List, [], ◌∷◌, length, Some, None, Ok, Err, Option, Result}
 use Rattle.tree.specs.declared.form.Form.{Form}
 use Rattle.tree.specs.declared.form.Form.TheVariants.{Text as TextForm, Uri, Structure, Bag, Sequence, Alternative}
 use Rattle.tree.specs.declared.failure.TreeFault.{TreeFault}
 use Rattle.tree.specs.declared.failure.TreeFault.TheVariants.{Nowhere, Unsuited, Occupied, Unlawful, Forbidden, Limit}
-use Rattle.names.specs.Order.{Text, Name, same_name}
+use Rattle.names.specs.Order.{Text, same_name}
 use Rattle.names.specs.Reserved.{lang_name}
 use Rattle.names.specs.Xml.{all_xml}
 use Rattle.tree.specs.Names.{is_language_tag, is_lawful_name, is_qualifier_name}

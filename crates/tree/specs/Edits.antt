@@ -1,5 +1,5 @@
 -- What is proved of the calls with a path.
-use Rattle.std.specs.Prelude.{◌≡◌, ℕ, suc, ◌<◌, ◌≤◌, ◌≢◌, List, [], ◌∷◌, Some, None, Ok, Err, Option}
+use Rattle.std.specs.Prelude.{◌≡◌, ℕ, suc, ◌<◌, ◌≤◌, ◌≢◌, [], ◌∷◌, Some, None, Ok, Option}
 use Rattle.names.specs.Order.{Name}
 use Rattle.tree.specs.Tree.{Head, Nodes, none, Node, Tree}
 use Rattle.tree.specs.Lawful.{Lawful}

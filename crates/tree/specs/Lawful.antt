@@ -2,7 +2,7 @@
 use Rattle.std.specs.Prelude.{◌≡◌, ℕ, suc, ◌+◌, ◌≤◌, max, Bool, true, false, cond, ◌&&◌, List, [], ◌∷◌, length, nat_le}
 use Rattle.tree.specs.declared.form.Form.{Form}
 use Rattle.tree.specs.declared.form.Form.TheVariants.{Text as TextForm, Uri, Structure, Bag, Sequence, Alternative}
-use Rattle.names.specs.Order.{Text, Name, NameBefore, same, before, same_name}
+use Rattle.names.specs.Order.{Text, NameBefore, same, before, same_name}
 use Rattle.tree.specs.Names.{LawfulName, QualifierName, LanguageTag}
 use Rattle.names.specs.Xml.{XmlText}
 use Rattle.names.specs.Reserved.{lang_name, xml_uri}

@@ -1,5 +1,5 @@
 -- Which names and language tags are lawful.
-use Rattle.std.specs.Prelude.{◌≡◌, ℕ, Bool, true, false, not, ◌&&◌, ◌||◌, ◌⊎◌, List, [], ◌∷◌}
+use Rattle.std.specs.Prelude.{◌≡◌, Bool, true, false, not, ◌&&◌, ◌||◌, ◌⊎◌, [], ◌∷◌}
 use Rattle.std.specs.List.{AllByRecursion as All}
 use Rattle.characters.specs.Classes.{is_local, is_tag}
 use Rattle.names.specs.Order.{Text, Name, same, same_name}

@@ -1,10 +1,10 @@
 -- Paths into a tree, and the node that stands at one.
-use Rattle.std.specs.Prelude.{◌≡◌, ℕ, zero, suc, ◌+◌, ◌-◌, Bool, true, false, cond, not, ◌&&◌, ◌||◌, List, [], ◌∷◌, Some, None, Ok, Err, Option, Result, ◌==◌}
+use Rattle.std.specs.Prelude.{ℕ, zero, suc, ◌+◌, ◌-◌, Bool, true, false, cond, not, ◌&&◌, ◌||◌, List, [], ◌∷◌, Some, None, Ok, Err, Option, Result, ◌==◌}
 use Rattle.tree.specs.declared.form.Form.TheVariants.{Structure}
 use Rattle.tree.specs.declared.failure.TreeFault.{TreeFault}
 use Rattle.tree.specs.declared.failure.TreeFault.TheVariants.{Nowhere, Unsuited}
 use Rattle.names.specs.Order.{Name, same_name, name_before}
-use Rattle.tree.specs.Tree.{Label, named, item, Head, Nodes, none, more, Node, cons, Tree, is_array, is_structure}
+use Rattle.tree.specs.Tree.{Label, named, item, Nodes, none, more, Node, cons, Tree, is_array, is_structure}
 
 -- a step leads to a property or field by its name, to an item by its number, from 1 on, or to a qualifier by its name
 pub data Step : Type 0 where

@@ -1,7 +1,6 @@
 -- What is proved of names, of the tests of the rules, and of the namespaces of a tree.
-use Rattle.std.specs.Prelude.{◌≡◌, ℕ, ◌⊎◌, List, [], ◌∷◌, Decides, ◌≢◌}
-use Rattle.names.specs.Order.{Text, Name, Before, same, before, NameBefore, same_name, name_before, Ascending}
-use Rattle.names.specs.Xml.{XmlText, all_xml}
+use Rattle.std.specs.Prelude.{◌≡◌, ◌⊎◌, List, [], ◌∷◌, Decides, ◌≢◌}
+use Rattle.names.specs.Order.{Text, Name, Ascending}
 use Rattle.tree.specs.Names.{LocalName, LanguageTag, FreeNamespace, LawfulName, QualifierName, is_local_name, is_language_tag, is_free_namespace, is_lawful_name, is_qualifier_name}
 use Rattle.names.specs.Reserved.{xml_uri}
 use Rattle.tree.specs.Tree.{Label, named, item, Nodes, none, more, Tree}

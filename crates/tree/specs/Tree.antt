@@ -1,5 +1,5 @@
 -- What a tree is.
-use Rattle.std.specs.Prelude.{ℕ, Bool, true, false}
+use Rattle.std.specs.Prelude.{Bool, true, false}
 use Rattle.tree.specs.declared.form.Form.{Form}
 use Rattle.tree.specs.declared.form.Form.TheVariants.{Text as TextForm, Uri, Structure, Bag, Sequence, Alternative}
 use Rattle.names.specs.Order.{Text, Name}

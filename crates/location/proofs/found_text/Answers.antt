@@ -17,13 +17,13 @@ returns-in-InUtf8 c =
 pub returns-in-InUtf16Be : goal.returns-in-InUtf16Be
 returns-in-InUtf16Be c =
     let f = c.in-InUtf16Be.found in
-    IfOk-weaker c.packet_text_in-InUtf16Be.result _ _
+    IfOk-weaker c.packet_text-in-InUtf16Be.result _ _
     (λ s e. e ∙ same (codes "UTF-16BE") c.extent-in-InUtf16Be.result f.extent c.writable-in-InUtf16Be.result f.writable c.extent-in-InUtf16Be.ensures c.writable-in-InUtf16Be.ensures ∙ sym (ap text_of_found c.in-InUtf16Be.is))
-    c.packet_text_in-InUtf16Be.ensures
+    c.packet_text-in-InUtf16Be.ensures
 
 pub returns-in-InUtf16Le : goal.returns-in-InUtf16Le
 returns-in-InUtf16Le c =
     let f = c.in-InUtf16Le.found in
-    IfOk-weaker c.packet_text_in-InUtf16Le.result _ _
+    IfOk-weaker c.packet_text-in-InUtf16Le.result _ _
     (λ s e. e ∙ same (codes "UTF-16LE") c.extent-in-InUtf16Le.result f.extent c.writable-in-InUtf16Le.result f.writable c.extent-in-InUtf16Le.ensures c.writable-in-InUtf16Le.ensures ∙ sym (ap text_of_found c.in-InUtf16Le.is))
-    c.packet_text_in-InUtf16Le.ensures
+    c.packet_text-in-InUtf16Le.ensures

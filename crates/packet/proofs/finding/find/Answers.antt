@@ -34,8 +34,8 @@ overflow_sub-extent g c =
     let s = spans enc unit laws cs unit c.in-Some.place c.in-Some.start c.in_ok-writable.writable c.in_ok-writable.end h c.in_ok-writable.ensures in
     s.0
 
-pub invariant-of-extent : goal.invariant-of-extent
-invariant-of-extent g c =
+pub invariant_of-extent : goal.invariant_of-extent
+invariant_of-extent g c =
     let enc = g.C.TextCode.enc in
     let unit = g.C.TextCode.unit in
     let laws = g.C.TextCode.laws in
@@ -45,7 +45,7 @@ invariant-of-extent g c =
     let l = t.3 in
     let b = g.M.Medium.bounded c.args.m.now in
     let s = spans enc unit laws cs unit c.in-Some.place c.in-Some.start c.in_ok-writable.writable c.in_ok-writable.end h t in
-    (omega arith, (omega arith, tt))
+    record { short = omega arith; inside = omega arith }
 
 pub returns : goal.returns
 returns g c =

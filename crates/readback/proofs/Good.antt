@@ -1,8 +1,8 @@
 -- Markup in which nothing is wrong where certain bindings are in force.
 use Rattle.std.proofs.Common.{◌≡◌, ℕ, ◌<◌, ◌≤◌, cond, List, [], ◌∷◌, length, Some, None, sym, refl, ap, ◌∙◌, ap₂, arith}
 use Rattle.std.specs.List.{AllByRecursion}
-use Rattle.tree.specs.Order.{Text, Name}
-use Rattle.tree.proofs.Never.{never}
+use Rattle.names.specs.Order.{Text, Name}
+use Rattle.names.proofs.Never.{never}
 use Rattle.characters.specs.declared.escapes.Where.TheVariants.{Attribute as Quoted}
 use Rattle.markup.specs.Elements.{Attribute, Markup, nothing, words, element}
 use Rattle.xml.specs.Namespaces.{Member, Repeats, Scope, declares, binding, is_declared, in_force, element_name, attribute_name, field_of, fields, expansions, expanded_names, SomeWrong, prefixes}

@@ -2,7 +2,7 @@
 use Rattle.std.proofs.Common.{◌≡◌, ℕ, ◌≢◌, [], ◌∷◌, refl, ap}
 use Rattle.std.specs.List.{AllByRecursion}
 use Rattle.std.proofs.lemmas.Bool.{ne_eqb}
-use Rattle.tree.specs.Order.{Text}
+use Rattle.names.specs.Order.{Text}
 use Rattle.xml.specs.Reading.{unixed}
 
 -- no U+000D stands in it

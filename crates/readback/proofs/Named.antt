@@ -1,6 +1,6 @@
 -- Names as they are written in markup, and the names that the scanner reads them as.
 use Rattle.std.proofs.Common.{◌≡◌, ℕ, [], ◌∷◌, ◌++◌, sym, refl, ap, ◌∙◌, subst}
-use Rattle.tree.specs.Order.{Text}
+use Rattle.names.specs.Order.{Text}
 use Rattle.items.specs.Tokens.{QName, bare, prefixed, written, NcName, IsQName}
 use Rattle.items.proofs.Names.{name-reads}
 use Rattle.readback.specs.Meaning.{or_bare, name_of}

@@ -9,7 +9,7 @@ use Rattle.characters.specs.Spelling.{spelt, spelling, spellings}
 use Rattle.characters.specs.Safe.{greater_spelling}
 use Rattle.characters.specs.declared.escapes.Where.{Where}
 use Rattle.characters.specs.declared.escapes.Where.TheVariants.{Content, Attribute as Quoted}
-use Rattle.tree.specs.Order.{Text}
+use Rattle.names.specs.Order.{Text}
 use Rattle.items.specs.Tokens.{Piece, literal, chars, Token, Words}
 use Rattle.items.specs.Grammar.{Each, no_more, next, Refers, ampersand, less, greater, quote, hexadecimal, InText, InValue, spaced, NoCdataEnd, Stops, Item, run}
 

@@ -4,7 +4,7 @@ use Rattle.std.specs.List.{AllByRecursion}
 use Rattle.characters.specs.Classes.{is_white}
 use Rattle.characters.specs.Spelling.{spellings}
 use Rattle.characters.specs.declared.escapes.Where.TheVariants.{Attribute as Quoted}
-use Rattle.tree.specs.Order.{Text}
+use Rattle.names.specs.Order.{Text}
 use Rattle.items.specs.Tokens.{written, Attr, Start, End}
 use Rattle.items.specs.Grammar.{Each, no_more, next, IsAttr, attribute, IsTag, start, end, Item, tag}
 use Rattle.markup.specs.Elements.{Attribute, attribute_text, attributes_text, start_tag, end_tag}

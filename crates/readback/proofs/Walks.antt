@@ -4,8 +4,8 @@ use Rattle.std.specs.List.{AllByRecursion}
 use Rattle.std.proofs.ByRecursion.{All-weaker}
 use Rattle.characters.specs.Spelling.{spellings}
 use Rattle.characters.specs.declared.escapes.Where.TheVariants.{Content as Running}
-use Rattle.tree.specs.Order.{Text, Name}
-use Rattle.tree.specs.Names.{XmlText}
+use Rattle.names.specs.Order.{Text, Name}
+use Rattle.names.specs.Xml.{XmlText}
 use Rattle.items.specs.Tokens.{QName, Piece, chars, Attr, Token, Start, End, Words}
 use Rattle.items.specs.Grammar.{Item, Stops}
 use Rattle.markup.specs.Elements.{Attribute, Markup, nothing, words, element, start_tag, end_tag, markup_text, opened}

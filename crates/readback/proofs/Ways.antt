@@ -7,8 +7,8 @@ use Rattle.characters.specs.Classes.{is_xml}
 use Rattle.characters.specs.Spelling.{spelling}
 use Rattle.characters.specs.declared.escapes.Where.{Where}
 use Rattle.characters.specs.declared.escapes.Where.TheVariants.{Attribute as Quoted}
-use Rattle.tree.specs.Order.{Text}
-use Rattle.tree.specs.Names.{XmlText}
+use Rattle.names.specs.Order.{Text}
+use Rattle.names.specs.Xml.{XmlText}
 use Rattle.items.specs.Tokens.{Piece, widths, Attr, Token, references, attr_references, references_of, written}
 use Rattle.items.specs.Grammar.{Item}
 use Rattle.markup.specs.Elements.{Attribute}

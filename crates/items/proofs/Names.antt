@@ -13,7 +13,7 @@ use Rattle.items.specs.Scan.{all_name, is_nc_name, onto, split, as_name, q_name,
 use Rattle.items.proofs.Options.{none_some, same-inside}
 
 -- Characters of names.
-in_front : (rs qs : Ranges) (c : ℕ) → In rs c → In (rs ++ qs) c
+pub in_front : (rs qs : Ranges) (c : ℕ) → In rs c → In (rs ++ qs) c
 in_front [] qs c h = absurd h
 in_front (r ∷ rs) qs c h = ⊎_elim inl (λ i. inr (in_front rs qs c i)) h
 

@@ -1,5 +1,5 @@
 -- Markup in which nothing is wrong where certain bindings are in force.
-use Rattle.std.proofs.Common.{◌≡◌, ℕ, ◌<◌, ◌≤◌, cond, List, [], ◌∷◌, length, Some, None, sym, refl, ap, ◌∙◌, ap₂, arith}
+use Rattle.std.proofs.Common.{◌≡◌, ℕ, ◌<◌, ◌≤◌, cond, List, [], ◌∷◌, length, Some, None, refl, ap₂, arith}
 use Rattle.std.specs.List.{AllByRecursion}
 use Rattle.names.specs.Order.{Text, Name}
 use Rattle.names.proofs.Never.{never}

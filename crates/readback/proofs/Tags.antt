@@ -1,5 +1,5 @@
 -- Tags as they are spelt are items.
-use Rattle.std.proofs.Common.{◌≡◌, ℕ, ◌+◌, List, [], ◌∷◌, ◌++◌, length, refl, subst, inl}
+use Rattle.std.proofs.Common.{◌+◌, List, [], ◌∷◌, ◌++◌, length, refl, subst, inl}
 use Rattle.std.specs.List.{AllByRecursion}
 use Rattle.characters.specs.Classes.{is_white}
 use Rattle.characters.specs.Spelling.{spellings}

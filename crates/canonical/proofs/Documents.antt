@@ -1,6 +1,6 @@
 -- The whole document of a lawful tree: within the limits, names that are plain, and XML's characters.
 use Rattle.std.proofs.Common.{List, [], ◌∷◌, codes, refl, arith}
-use Rattle.std.specs.List.{AllByRecursion as All}
+use Rattle.std.specs.List.{AllByRecursion}
 use Rattle.characters.specs.Classes.{is_xml}
 use Rattle.names.specs.Order.{same}
 use Rattle.names.specs.Xml.{XmlText, all_xml}
@@ -36,7 +36,7 @@ rdf_xml : XmlText rdf_uri
 unfolding rdf_uri all_xml is_xml
 rdf_xml = (xml_decides rdf_uri).0 refl
 
-declaring-fit : (t : Tree) → Lawful t → All FitAttribute (declaring t)
+declaring-fit : (t : Tree) → Lawful t → AllByRecursion FitAttribute (declaring t)
 declaring-fit t l =
     ((omega arith, rdf_xml), declared_fit 1 (namespaces t.properties) (omega (arith, l.limits.namespaces)) (namespaces_xml Fields t.properties l.properties))
 

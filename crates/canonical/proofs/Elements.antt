@@ -1,6 +1,6 @@
 -- The elements of a lawful tree are sober.
 use Rattle.std.proofs.Common.{◌≡◌, ◌≤◌, Bool, true, false, List, [], ◌∷◌, length, codes, refl, arith, length-append}
-use Rattle.std.specs.List.{AllByRecursion as All}
+use Rattle.std.specs.List.{AllByRecursion}
 use Rattle.std.proofs.ByRecursion.{All-append}
 use Rattle.std.proofs.lemmas.Bool.{cond_both, false≢true}
 use Rattle.tree.specs.declared.form.Form.{Form}
@@ -16,7 +16,7 @@ use Rattle.canonical.proofs.Sober.{SoberAttribute, Sober}
 
 -- at most one attribute
 abbrev Single : List Attribute → Type 0
-Single as' = (length as' ≤ 1) × All SoberAttribute as'
+Single as' = (length as' ≤ 1) × AllByRecursion SoberAttribute as'
 
 resource_sober : SoberAttribute as_resource
 unfolding same

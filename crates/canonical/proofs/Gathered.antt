@@ -1,6 +1,6 @@
 -- The namespaces that canonical text declares.
 use Rattle.std.proofs.Common.{◌≡◌, ℕ, suc, ◌+◌, ◌<◌, cond, List, [], ◌∷◌, length, codes, refl, ap, arith}
-use Rattle.std.specs.List.{AllByRecursion as All}
+use Rattle.std.specs.List.{AllByRecursion}
 use Rattle.std.proofs.ByRecursion.{All-append}
 use Rattle.std.proofs.lemmas.Bool.{cond_both}
 use Rattle.names.specs.Order.{Text, same, before}
@@ -13,16 +13,16 @@ use Rattle.canonical.proofs.Names.{Sign, prefix-signs, number-after}
 use Rattle.canonical.proofs.Sober.{FitAttribute}
 
 -- those of a lawful tree are of XML's characters
-inserted-xml : (u : Text) (us : List Text) → XmlText u → All XmlText us → All XmlText (inserted u us)
+inserted-xml : (u : Text) (us : List Text) → XmlText u → AllByRecursion XmlText us → AllByRecursion XmlText (inserted u us)
 inserted-xml u [] h k = (h, tt)
 inserted-xml u (v ∷ us) h k =
-    cond_both (same u v) _ _ (All XmlText) (λ _. k)
-    (λ _. cond_both (before u v) _ _ (All XmlText) (λ _. (h, k)) (λ _. (k.0, inserted-xml u us h k.1)))
+    cond_both (same u v) _ _ (AllByRecursion XmlText) (λ _. k)
+    (λ _. cond_both (before u v) _ _ (AllByRecursion XmlText) (λ _. (h, k)) (λ _. (k.0, inserted-xml u us h k.1)))
 
-named_xml : (u : Text) (us : List Text) → XmlText u → All XmlText us → All XmlText (cond (same u xml_uri) us (inserted u us))
-named_xml u us h k = cond_both (same u xml_uri) _ _ (All XmlText) (λ _. k) (λ _. inserted-xml u us h k)
+named_xml : (u : Text) (us : List Text) → XmlText u → AllByRecursion XmlText us → AllByRecursion XmlText (cond (same u xml_uri) us (inserted u us))
+named_xml u us h k = cond_both (same u xml_uri) _ _ (AllByRecursion XmlText) (λ _. k) (λ _. inserted-xml u us h k)
 
-noted-xml : (k : Row) (l : Label) (us : List Text) → LawfulLabel k l → All XmlText us → All XmlText (noted l us)
+noted-xml : (k : Row) (l : Label) (us : List Text) → LawfulLabel k l → AllByRecursion XmlText us → AllByRecursion XmlText (noted l us)
 noted-xml Fields (named n) us h a = named_xml n.uri us h.1 a
 noted-xml Fields item us h a = a
 noted-xml Items (named n) us h a = absurd h
@@ -30,13 +30,13 @@ noted-xml Items item us h a = a
 noted-xml Qualifiers (named n) us h a = named_xml n.uri us h.1 a
 noted-xml Qualifiers item us h a = a
 
-gathered-xml : (k : Row) (ns : Nodes) (us : List Text) → LawfulNodes k ns → All XmlText us → All XmlText (gathered ns us)
+gathered-xml : (k : Row) (ns : Nodes) (us : List Text) → LawfulNodes k ns → AllByRecursion XmlText us → AllByRecursion XmlText (gathered ns us)
 gathered-xml k none us l a = a
 gathered-xml k (more h q p r) us l a =
     noted-xml k h.label (gathered q (gathered p (gathered r us))) l.0.label
     (gathered-xml Qualifiers q (gathered p (gathered r us)) l.1 (gathered-xml _ p (gathered r us) l.2 (gathered-xml k r us l.3 a)))
 
-pub namespaces_xml : (k : Row) (ns : Nodes) → LawfulNodes k ns → All XmlText (namespaces ns)
+pub namespaces_xml : (k : Row) (ns : Nodes) → LawfulNodes k ns → AllByRecursion XmlText (namespaces ns)
 unfolding namespaces
 namespaces_xml k ns l = gathered-xml k ns [] l tt
 
@@ -45,7 +45,7 @@ pub declared_length : (k : ℕ) (us : List Text) → length (declared_from k us)
 declared_length k [] = refl
 declared_length k (u ∷ us) = ap suc (declared_length (number_after k u) us)
 
-pub declared_fit : (k : ℕ) (us : List Text) → k + length us < 100 → All XmlText us → All FitAttribute (declared_from k us)
+pub declared_fit : (k : ℕ) (us : List Text) → k + length us < 100 → AllByRecursion XmlText us → AllByRecursion FitAttribute (declared_from k us)
 declared_fit k [] h a = tt
 declared_fit k (u ∷ us) h a =
     let l = number-after k u in

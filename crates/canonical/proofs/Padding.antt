@@ -1,6 +1,6 @@
 -- Padding, and the text of a tree with padding behind it.
 use Rattle.std.proofs.Common.{◌≡◌, ℕ, zero, suc, ◌+◌, ◌%◌, true, eqb, ◌≢◌, ◌++◌, map, refl, arith}
-use Rattle.std.specs.List.{range_with_len, AllByRecursion as All}
+use Rattle.std.specs.List.{range_with_len, AllByRecursion}
 use Rattle.std.proofs.ByRecursion.{All-append}
 use Rattle.std.proofs.lemmas.Bool.{cond_both}
 use Rattle.characters.specs.Classes.{is_xml}
@@ -15,11 +15,11 @@ use Rattle.canonical.specs.Packet.{body, padding_at, padding}
 use Rattle.canonical.proofs.Documents.{document-names, document-xml}
 
 -- every character of padding is a line feed or a space
-padded_all : (P : ℕ → Type 0) → P 10 → P 32 → (k n : ℕ) → All P (map padding_at (range_with_len k n))
+padded_all : (P : ℕ → Type 0) → P 10 → P 32 → (k n : ℕ) → AllByRecursion P (map padding_at (range_with_len k n))
 padded_all P f s k zero = tt
 padded_all P f s k (suc n) = (cond_both (eqb (k % 100) 0) 10 32 P (λ _. f) (λ _. s), padded_all P f s (k + 1) n)
 
-padding-all : (P : ℕ → Type 0) → P 10 → P 32 → (n : ℕ) → All P (padding n)
+padding-all : (P : ℕ → Type 0) → P 10 → P 32 → (n : ℕ) → AllByRecursion P (padding n)
 unfolding padding
 padding-all P f s n = padded_all P f s 1 n
 

@@ -1,6 +1,6 @@
 -- Markup whose tags are plain: fit names, few attributes and no declarations, and XML's characters throughout.
 use Rattle.std.proofs.Common.{◌≡◌, suc, ◌≤◌, false, List, [], ◌∷◌, length, refl, arith}
-use Rattle.std.specs.List.{AllByRecursion as All}
+use Rattle.std.specs.List.{AllByRecursion}
 use Rattle.std.proofs.ByRecursion.{All-weaker}
 use Rattle.std.proofs.lemmas.Bool.{cond_both}
 use Rattle.names.specs.Xml.{XmlText}
@@ -18,7 +18,7 @@ SoberAttribute a = FitAttribute a × (declares a ≡ false)
 abbrev pub Sober : Markup → Type 0
 Sober nothing = Unit {0}
 Sober (words t r) = XmlText t × Sober r
-Sober (element n as' c r) = Fit n × (length as' ≤ 2) × All SoberAttribute as' × Sober c × Sober r
+Sober (element n as' c r) = Fit n × (length as' ≤ 2) × AllByRecursion SoberAttribute as' × Sober c × Sober r
 
 -- attributes in a tag
 pub sober_attributes : (m : Markup) → Sober m → attributes m ≤ 2
@@ -27,7 +27,7 @@ sober_attributes (words t r) h = sober_attributes r h.1
 sober_attributes (element n as' c r) h = omega (arith, sober_attributes c h.3, sober_attributes r h.4)
 
 -- declarations
-undeclared : (as' : List Attribute) → All SoberAttribute as' → declarations as' ≡ 0
+undeclared : (as' : List Attribute) → AllByRecursion SoberAttribute as' → declarations as' ≡ 0
 undeclared [] h = refl
 undeclared (a ∷ as') h = rw h.0.1 (undeclared as' h.1)
 
@@ -43,13 +43,13 @@ sober_bindings (words t r) h = sober_bindings r h.1
 sober_bindings (element n as' c r) h = omega (arith, undeclared as' h.2, sober_bindings c h.3, sober_bindings r h.4)
 
 -- names and characters
-pub fit_names : (as' : List Attribute) → All FitAttribute as' → All (λ a. PlainName a.name) as'
+pub fit_names : (as' : List Attribute) → AllByRecursion FitAttribute as' → AllByRecursion (λ a. PlainName a.name) as'
 fit_names as' h = All-weaker FitAttribute _ (λ a p. fit_plain a.name p.0) as' h
 
-pub fit_texts : (as' : List Attribute) → All FitAttribute as' → All (λ a. XmlText a.name × XmlText a.value) as'
+pub fit_texts : (as' : List Attribute) → AllByRecursion FitAttribute as' → AllByRecursion (λ a. XmlText a.name × XmlText a.value) as'
 fit_texts as' h = All-weaker FitAttribute _ (λ a p. (fit_xml a.name p.0, p.1)) as' h
 
-fits : (as' : List Attribute) → All SoberAttribute as' → All FitAttribute as'
+fits : (as' : List Attribute) → AllByRecursion SoberAttribute as' → AllByRecursion FitAttribute as'
 fits as' h = All-weaker SoberAttribute FitAttribute (λ a p. p.0) as' h
 
 pub sober_names : (m : Markup) → Sober m → PlainNames m

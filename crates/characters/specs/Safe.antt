@@ -1,7 +1,7 @@
 -- What a reader of spelt text may rely on.
 use Rattle.std.specs.Prelude.{◌≡◌, ℕ, ◌<◌, ◌≤◌, true, ◌≢◌, List, [], ◌∷◌, length, codes, ◌==◌, refl}
 use Rattle.std.proofs.Common.{inl, inr, arith, length-append}
-use Rattle.std.specs.List.{AllByRecursion as All}
+use Rattle.std.specs.List.{AllByRecursion}
 use Rattle.std.proofs.ByRecursion.{All-append, All-weaker}
 use Rattle.std.proofs.lemmas.Bool.{eqb-false, ne_eqb, cond_both}
 use Rattle.std.proofs.lemmas.Bool.Decides.{not_from_Decides}
@@ -41,7 +41,7 @@ plain-spelling w c p =
     bare_anywhere w c
     ((λ e. h (inr (inl (omega arith))), p.ampersand, p.less, p.greater), λ e. h (inl (omega arith)), λ e. h (inl (omega arith)), p.quote)
 
-pub plain-spellings : (w : Where) (cs : List ℕ) → All Plain cs → spellings w cs ≡ cs
+pub plain-spellings : (w : Where) (cs : List ℕ) → AllByRecursion Plain cs → spellings w cs ≡ cs
 plain-spellings w [] h = refl
 plain-spellings w (c ∷ cs) h = rw (plain-spelling w c h.0, plain-spellings w cs h.1) refl
 
@@ -83,7 +83,7 @@ abbrev pub Sign : ℕ → Type 0
 Sign d = (35 ≤ d) × (d < 123) × (d ≢ 60) × (d ≢ 62)
 
 abbrev Reference : List ℕ → Type 0
-Reference l = All Sign l × (4 ≤ length l) × (length l ≤ 6)
+Reference l = AllByRecursion Sign l × (4 ≤ length l) × (length l ≤ 6)
 
 -- what holds of references, and of each character that stands for itself, holds of every spelling
 by_spelt : (P : List ℕ → Type 0) (c : ℕ) → ((l : List ℕ) → Reference l → P l) → (Bare c → P (c ∷ [])) → P (spelt c)
@@ -107,11 +107,11 @@ by_spelling P Content c n f = by_spelt P c n f
 by_spelling P Attribute c n f = by_quoted P c n f
 
 -- what holds of the signs of references, and of a character where it stands for itself, holds of each character of its spelling
-pub spelling-all : (R : ℕ → Type 0) (w : Where) (c : ℕ) → ((d : ℕ) → Sign d → R d) → (BareIn w c → R c) → All R (spelling w c)
-spelling-all R w c f g = by_spelling (All R) w c (λ l n. All-weaker Sign R f l n.0) (λ h. (g h, tt))
+pub spelling-all : (R : ℕ → Type 0) (w : Where) (c : ℕ) → ((d : ℕ) → Sign d → R d) → (BareIn w c → R c) → AllByRecursion R (spelling w c)
+spelling-all R w c f g = by_spelling (AllByRecursion R) w c (λ l n. All-weaker Sign R f l n.0) (λ h. (g h, tt))
 
 -- and what is so of each character of a text is so of the text
-pub spellings-all : (P R : ℕ → Type 0) (w : Where) → ((c : ℕ) → P c → All R (spelling w c)) → (cs : List ℕ) → All P cs → All R (spellings w cs)
+pub spellings-all : (P R : ℕ → Type 0) (w : Where) → ((c : ℕ) → P c → AllByRecursion R (spelling w c)) → (cs : List ℕ) → AllByRecursion P cs → AllByRecursion R (spellings w cs)
 spellings-all P R w f [] h = tt
 spellings-all P R w f (c ∷ cs) h = All-append R (spelling w c) (spellings w cs) (f c h.0) (spellings-all P R w f cs h.1)
 
@@ -120,11 +120,11 @@ abbrev pub Quiet : Where → ℕ → Type 0
 Quiet Content d = (d ≢ 13) × (d ≢ 60) × (d ≢ 62)
 Quiet Attribute d = (d ≢ 13) × (d ≢ 60) × (d ≢ 62) × (d ≢ 9) × (d ≢ 10) × (d ≢ 34)
 
-pub spelling-quiet : (w : Where) (c : ℕ) → All (Quiet w) (spelling w c)
+pub spelling-quiet : (w : Where) (c : ℕ) → AllByRecursion (Quiet w) (spelling w c)
 spelling-quiet Content c = spelling-all (Quiet Content) Content c (λ d h. omega arith) (λ h. omega arith)
 spelling-quiet Attribute c = spelling-all (Quiet Attribute) Attribute c (λ d h. omega arith) (λ h. omega arith)
 
-pub spellings-quiet : (w : Where) (cs : List ℕ) → All (Quiet w) (spellings w cs)
+pub spellings-quiet : (w : Where) (cs : List ℕ) → AllByRecursion (Quiet w) (spellings w cs)
 spellings-quiet w [] = tt
 spellings-quiet w (c ∷ cs) = All-append (Quiet w) (spelling w c) (spellings w cs) (spelling-quiet w c) (spellings-quiet w cs)
 
@@ -132,10 +132,10 @@ spellings-quiet w (c ∷ cs) = All-append (Quiet w) (spelling w c) (spellings w 
 sign_xml : (d : ℕ) → Sign d → is_xml d ≡ true
 sign_xml d h = (xml_decides d).1 (inr (inr (inl (omega arith, omega arith))))
 
-pub spelling-xml : (w : Where) (c : ℕ) → is_xml c ≡ true → All (λ d. is_xml d ≡ true) (spelling w c)
+pub spelling-xml : (w : Where) (c : ℕ) → is_xml c ≡ true → AllByRecursion (λ d. is_xml d ≡ true) (spelling w c)
 spelling-xml w c e = spelling-all (λ d. is_xml d ≡ true) w c sign_xml (λ _. e)
 
-pub spellings-xml : (w : Where) (cs : List ℕ) → All (λ c. is_xml c ≡ true) cs → All (λ d. is_xml d ≡ true) (spellings w cs)
+pub spellings-xml : (w : Where) (cs : List ℕ) → AllByRecursion (λ c. is_xml c ≡ true) cs → AllByRecursion (λ d. is_xml d ≡ true) (spellings w cs)
 spellings-xml w cs h = spellings-all (λ c. is_xml c ≡ true) (λ d. is_xml d ≡ true) w (spelling-xml w) cs h
 
 -- a spelling has one to six characters

@@ -1,6 +1,6 @@
 -- What the crate promises above its single functions.
 use Rattle.std.specs.Prelude.{◌≡◌, ℕ, ◌<◌, ◌≤◌, Bool, true, List, length, Decides}
-use Rattle.std.specs.List.{AllByRecursion as All}
+use Rattle.std.specs.List.{AllByRecursion}
 use Rattle.characters.specs.declared.escapes.Where.{Where}
 use Rattle.characters.specs.Classes.{Ranges, In, within, xml_ranges, white_ranges, tag_ranges, local_at, name_at, is_xml, is_white, is_tag, is_local, is_name}
 use Rattle.characters.specs.Members.{Plain}
@@ -27,10 +27,10 @@ pub record NamesPlain : Type 0 where
 -- no spelling has what would end the text where it stands, or what a reader of XML would change, or what XML forbids; each has a
 -- character, and names are spelt by themselves
 pub record SpellingSafe : Type 0 where
-  pub quiet : (w : Where) (c : ℕ) → All (Quiet w) (spelling w c)
-  pub quiet_text : (w : Where) (cs : List ℕ) → All (Quiet w) (spellings w cs)
-  pub allowed : (w : Where) (c : ℕ) → is_xml c ≡ true → All (λ d. is_xml d ≡ true) (spelling w c)
-  pub allowed_text : (w : Where) (cs : List ℕ) → All (λ c. is_xml c ≡ true) cs → All (λ d. is_xml d ≡ true) (spellings w cs)
+  pub quiet : (w : Where) (c : ℕ) → AllByRecursion (Quiet w) (spelling w c)
+  pub quiet_text : (w : Where) (cs : List ℕ) → AllByRecursion (Quiet w) (spellings w cs)
+  pub allowed : (w : Where) (c : ℕ) → is_xml c ≡ true → AllByRecursion (λ d. is_xml d ≡ true) (spelling w c)
+  pub allowed_text : (w : Where) (cs : List ℕ) → AllByRecursion (λ c. is_xml c ≡ true) cs → AllByRecursion (λ d. is_xml d ≡ true) (spellings w cs)
   pub size : (w : Where) (c : ℕ) → (1 ≤ length (spelling w c)) × (length (spelling w c) ≤ 6)
   pub size_text : (w : Where) (cs : List ℕ) → length cs ≤ length (spellings w cs)
-  pub plain_text : (w : Where) (cs : List ℕ) → All Plain cs → spellings w cs ≡ cs
+  pub plain_text : (w : Where) (cs : List ℕ) → AllByRecursion Plain cs → spellings w cs ≡ cs

@@ -1,6 +1,6 @@
 -- Tags and texts as they are spelt: tame, and in XML's characters.
 use Rattle.std.proofs.Common.{◌≡◌, ℕ, true, ◌≢◌, List, [], ◌∷◌, ◌++◌, refl, arith}
-use Rattle.std.specs.List.{AllByRecursion as All}
+use Rattle.std.specs.List.{AllByRecursion}
 use Rattle.std.proofs.ByRecursion.{All-append, All-push, All-weaker}
 use Rattle.characters.specs.Classes.{is_xml}
 use Rattle.characters.specs.Spelling.{spellings}
@@ -15,27 +15,27 @@ use Rattle.markup.proofs.Tame.{Tame, Onward, onward_append, tame_append, plain-t
 -- What holds of every character of the names and of the spelt values, and of ` `, `"`, `=` and `>`, holds of every character of a
 -- start tag behind its `<`.
 module _ (R : ℕ → Type 0) (space : R 32) (quote : R 34) (equals : R 61) (greater : R 62) where
-  attribute_all : (a : Attribute) → All R a.name → All R (spellings Quoted a.value) → All R (attribute_text a)
+  attribute_all : (a : Attribute) → AllByRecursion R a.name → AllByRecursion R (spellings Quoted a.value) → AllByRecursion R (attribute_text a)
   attribute_all a h k =
       (space, All-append R a.name _ h (equals, (quote, All-push R (spellings Quoted a.value) 34 k quote)))
 
-  attributes-all : (as' : List Attribute) → All (λ a. All R a.name × All R (spellings Quoted a.value)) as' → All R (attributes_text as')
+  attributes-all : (as' : List Attribute) → AllByRecursion (λ a. AllByRecursion R a.name × AllByRecursion R (spellings Quoted a.value)) as' → AllByRecursion R (attributes_text as')
   attributes-all [] h = tt
   attributes-all (a ∷ as') h =
       All-append R (attribute_text a) (attributes_text as') (attribute_all a h.0.0 h.0.1) (attributes-all as' h.1)
 
-  start_all : (n : Text) (as' : List Attribute) → All R n → All (λ a. All R a.name × All R (spellings Quoted a.value)) as' → All R (n ++ (attributes_text as' ++ (62 ∷ [])))
+  start_all : (n : Text) (as' : List Attribute) → AllByRecursion R n → AllByRecursion (λ a. AllByRecursion R a.name × AllByRecursion R (spellings Quoted a.value)) as' → AllByRecursion R (n ++ (attributes_text as' ++ (62 ∷ [])))
   start_all n as' h k = All-append R n _ h (All-push R (attributes_text as') 62 (attributes-all as' k) greater)
 
 -- No `<` stands in a plain name, in a spelt value or in a spelt text.
 abbrev Other : ℕ → Type 0
 Other d = d ≢ 60
 
-name-other : (n : Text) → PlainName n → All Other n
+name-other : (n : Text) → PlainName n → AllByRecursion Other n
 name-other [] h = absurd h
 name-other (c ∷ n) h = h.1
 
-quoted_other : (x : Text) → All Other (spellings Quoted x)
+quoted_other : (x : Text) → AllByRecursion Other (spellings Quoted x)
 quoted_other x = All-weaker (Quiet Quoted) Other (λ d h. h.1) (spellings Quoted x) (spellings-quiet Quoted x)
 
 tame_words : (x : Text) → Tame (spellings Content x)
@@ -46,9 +46,9 @@ name-onward : (n : Text) → PlainName n → Onward n
 name-onward [] h = absurd h
 name-onward (c ∷ n) h = h.0
 
-tame_start : (n : Text) (as' : List Attribute) → PlainName n → All (λ a. PlainName a.name) as' → Tame (start_tag n as')
+tame_start : (n : Text) (as' : List Attribute) → PlainName n → AllByRecursion (λ a. PlainName a.name) as' → Tame (start_tag n as')
 tame_start n as' h k =
-    let p : All (λ a. All Other a.name × All Other (spellings Quoted a.value)) as' =
+    let p : AllByRecursion (λ a. AllByRecursion Other a.name × AllByRecursion Other (spellings Quoted a.value)) as' =
     All-weaker (λ a. PlainName a.name) _ (λ a q. (name-other a.name q, quoted_other a.value)) as' k in
     (λ _. onward_append n _ (name-onward n h), plain-tame _ (start_all Other (omega arith) (omega arith) (omega arith) (omega arith) n as' (name-other n h) p))
 
@@ -66,10 +66,10 @@ tame_markup (element n as' c r) h =
     (tame_append (markup_text c) _ (tame_markup c h.2) (tame_append (end_tag n) (markup_text r) (tame_end n h.0) (tame_markup r h.3)))
 
 -- markup of XML's characters is spelt in XML's characters
-xml_start : (n : Text) (as' : List Attribute) → XmlText n → All (λ a. XmlText a.name × XmlText a.value) as' → XmlText (start_tag n as')
+xml_start : (n : Text) (as' : List Attribute) → XmlText n → AllByRecursion (λ a. XmlText a.name × XmlText a.value) as' → XmlText (start_tag n as')
 unfolding is_xml
 xml_start n as' h k =
-    let p : All (λ a. XmlText a.name × XmlText (spellings Quoted a.value)) as' =
+    let p : AllByRecursion (λ a. XmlText a.name × XmlText (spellings Quoted a.value)) as' =
     All-weaker (λ a. XmlText a.name × XmlText a.value) _ (λ a q. (q.0, spellings-xml Quoted a.value q.1)) as' k in
     (refl, start_all (λ d. is_xml d ≡ true) refl refl refl refl n as' h p)
 

@@ -1,6 +1,6 @@
 -- Texts in which every `<` is followed by a character, and not by `?`.
 use Rattle.std.proofs.Common.{◌≡◌, ◌≢◌, [], ◌∷◌, ◌++◌, refl, subst}
-use Rattle.std.specs.List.{AllByRecursion as All}
+use Rattle.std.specs.List.{AllByRecursion}
 use Rattle.names.specs.Order.{Text}
 use Rattle.markup.specs.Clean.{NoInstruction}
 
@@ -24,7 +24,7 @@ tame_append [] t h k = k
 tame_append (c ∷ s) t h k = (λ e. onward_append s t (h.0 e), tame_append s t h.1 k)
 
 -- a text without `<`
-pub plain-tame : (t : Text) → All (λ d. d ≢ 60) t → Tame t
+pub plain-tame : (t : Text) → AllByRecursion (λ d. d ≢ 60) t → Tame t
 plain-tame [] h = tt
 plain-tame (c ∷ t) h = (λ e. absurd (h.0 e), plain-tame t h.1)
 

@@ -1,6 +1,6 @@
 -- Which names and language tags are lawful.
 use Rattle.std.specs.Prelude.{◌≡◌, Bool, true, false, not, ◌&&◌, ◌||◌, ◌⊎◌, [], ◌∷◌}
-use Rattle.std.specs.List.{AllByRecursion as All}
+use Rattle.std.specs.List.{AllByRecursion}
 use Rattle.characters.specs.Classes.{is_local, is_tag}
 use Rattle.names.specs.Order.{Text, Name, same, same_name}
 use Rattle.names.specs.Reserved.{rdf_uri, xml_uri, xmlns_uri, lang_name}
@@ -8,12 +8,12 @@ use Rattle.names.specs.Reserved.{rdf_uri, xml_uri, xmlns_uri, lang_name}
 -- a local name: not empty, its first character may begin one and the others may go on
 abbrev pub LocalName : Text → Type 0
 LocalName [] = ⊥
-LocalName (c ∷ t) = (is_local true c ≡ true) × All (λ d. is_local false d ≡ true) t
+LocalName (c ∷ t) = (is_local true c ≡ true) × AllByRecursion (λ d. is_local false d ≡ true) t
 
 -- a language tag: not empty, letters, digits and hyphens
 abbrev pub LanguageTag : Text → Type 0
 LanguageTag [] = ⊥
-LanguageTag (c ∷ t) = (is_tag c ≡ true) × All (λ d. is_tag d ≡ true) t
+LanguageTag (c ∷ t) = (is_tag c ≡ true) × AllByRecursion (λ d. is_tag d ≡ true) t
 
 -- a namespace is free for the names of a tree: there is one, and it is not reserved
 pub record FreeNamespace (u : Text) : Type 0 where

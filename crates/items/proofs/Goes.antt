@@ -1,6 +1,6 @@
 -- What the scanner makes of a text that is put together.
 use Rattle.std.proofs.Common.{◌≡◌, ℕ, ◌+◌, true, List, [], ◌∷◌, ◌++◌, length, Some, Option, sym, refl, ap, ◌∙◌, append_assoc, append-nil, arith}
-use Rattle.std.specs.List.{AllByRecursion as All}
+use Rattle.std.specs.List.{AllByRecursion}
 use Rattle.characters.specs.Classes.{is_white}
 use Rattle.names.specs.Order.{Text}
 use Rattle.items.specs.Tokens.{Token}
@@ -45,7 +45,7 @@ like {c = c} {a = a} e g = record { to = λ s. ap (λ v. moved v c (a ++ s) (λ 
 abbrev pub Gathers : (ℕ → Type 0) → (Text → Mode) → Type 0
 Gathers P hold = (t : Text) (c : ℕ) → P c → move (hold t) c ≡ on (hold (t ++ (c ∷ [])))
 
-pub absorb_all : {P : ℕ → Type 0} (hold : Text → Mode) → Gathers P hold → (t u : Text) → All P u → Goes (hold t) u (hold (t ++ u))
+pub absorb_all : {P : ℕ → Type 0} (hold : Text → Mode) → Gathers P hold → (t u : Text) → AllByRecursion P u → Goes (hold t) u (hold (t ++ u))
 absorb_all hold each t [] h = comes_to stop (ap hold (sym (append-nil t)))
 absorb_all hold each t (c ∷ u) h =
     one (each t c h.0) (comes_to (absorb_all hold each (t ++ (c ∷ [])) u h.1) (ap hold (append_assoc t (c ∷ []) u)))

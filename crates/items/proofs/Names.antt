@@ -1,6 +1,6 @@
 -- Names: what the scanner takes for a name, and where a name ends.
 use Rattle.std.proofs.Common.{◌≡◌, ℕ, Bool, true, false, cond, ◌&&◌, eqb, [], ◌∷◌, ◌++◌, Some, None, Decides, Option, refl, ap, subst, inl, inr, ⊎_elim, arith}
-use Rattle.std.specs.List.{AllByRecursion as All}
+use Rattle.std.specs.List.{AllByRecursion}
 use Rattle.std.proofs.lemmas.Bool.{eqb-true, ne_eqb, both_ways, cases_Bool, or_left, or_right, or_from, and_from}
 use Rattle.std.proofs.lemmas.Bool.Decides.{Decides-and}
 use Rattle.std.proofs.ByRecursion.{Decides-by_and, All-append, All-weaker}
@@ -13,7 +13,7 @@ use Rattle.items.specs.Scan.{all_name, is_nc_name, onto, split, as_name, q_name,
 use Rattle.items.proofs.Options.{none_some, same-inside}
 
 -- Characters of names.
-in_front : (rs qs : Ranges) (c : ℕ) → In rs c → In (rs ++ qs) c
+pub in_front : (rs qs : Ranges) (c : ℕ) → In rs c → In (rs ++ qs) c
 in_front [] qs c h = absurd h
 in_front (r ∷ rs) qs c h = ⊎_elim inl (λ i. inr (in_front rs qs c i)) h
 
@@ -42,7 +42,7 @@ decides_nc_name (c ∷ t) =
     (Decides-by_and (is_name false) (λ d. is_name false d ≡ true) all_name (λ d. decides_itself (is_name false d)) refl (λ _ _. refl) t)
 
 -- every character of a name without a colon goes on with a name
-nc_all : (t : Text) → NcName t → All (λ d. is_name false d ≡ true) t
+nc_all : (t : Text) → NcName t → AllByRecursion (λ d. is_name false d ≡ true) t
 nc_all [] h = absurd h
 nc_all (c ∷ t) h = (first_next c h.0, h.1)
 
@@ -50,11 +50,11 @@ nc_all (c ∷ t) h = (first_next c h.0, h.1)
 not_colon : (c : ℕ) → is_name false c ≡ true → eqb c 58 ≡ false
 not_colon c e = ne_eqb c 58 (name-plain false c e).colon
 
-split-none : (t : Text) → All (λ d. is_name false d ≡ true) t → split t ≡ None
+split-none : (t : Text) → AllByRecursion (λ d. is_name false d ≡ true) t → split t ≡ None
 split-none [] h = refl
 split-none (c ∷ t) h = rw (not_colon c h.0, split-none t h.1)
 
-split-some : (p l : Text) → All (λ d. is_name false d ≡ true) p → split (p ++ (58 ∷ l)) ≡ Some (p, l)
+split-some : (p l : Text) → AllByRecursion (λ d. is_name false d ≡ true) p → split (p ++ (58 ∷ l)) ≡ Some (p, l)
 split-some [] l h = refl
 split-some (c ∷ p) l h = rw (not_colon c h.0, split-some p l h.1)
 
@@ -93,7 +93,7 @@ reads-name a q e = go (split a) refl e
 -- a text that begins as a name does and goes on so
 abbrev pub NameText : Text → Type 0
 NameText [] = ⊥
-NameText (c ∷ t) = (is_name true c ≡ true) × All (λ d. is_char_of_name d ≡ true) t
+NameText (c ∷ t) = (is_name true c ≡ true) × AllByRecursion (λ d. is_char_of_name d ≡ true) t
 
 pub name-text : (q : QName) → IsQName q → NameText (written q)
 name-text (bare []) h = absurd h

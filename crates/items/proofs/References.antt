@@ -1,6 +1,6 @@
 -- References: what the scanner takes for one.
 use Rattle.std.proofs.Common.{◌≡◌, ℕ, ◌≤◌, Bool, true, false, cond, ◌&&◌, ◌||◌, eqb, leb, [], ◌∷◌, Some, None, codes, Decides, Option, refl, subst, ⊎_elim, arith}
-use Rattle.std.specs.List.{AllByRecursion as All}
+use Rattle.std.specs.List.{AllByRecursion}
 use Rattle.std.proofs.lemmas.Bool.{eqb-true, ne_eqb, both_ways, and_parts, or_cases, leb-true}
 use Rattle.std.proofs.lemmas.Bool.Decides.{Decides-and}
 use Rattle.std.proofs.ByRecursion.{Decides-by_and, All-weaker}
@@ -43,12 +43,12 @@ hexadecimal_plain c e =
 decimal-plain : (c : ℕ) → is_decimal c ≡ true → eqb c 59 ≡ false
 decimal-plain c e = ne_eqb c 59 (let h = decimal-range c e in omega arith)
 
-digits_all : (f : ℕ → Bool) (t : Text) → Digits f t → All (λ d. f d ≡ true) t
+digits_all : (f : ℕ → Bool) (t : Text) → Digits f t → AllByRecursion (λ d. f d ≡ true) t
 digits_all f [] h = absurd h
 digits_all f (c ∷ t) h = h
 
 -- a reference goes up to the first semicolon
-pub no_semicolon : {r : Text} {c : ℕ} → Refers r c → All (λ d. eqb d 59 ≡ false) r
+pub no_semicolon : {r : Text} {c : ℕ} → Refers r c → AllByRecursion (λ d. eqb d 59 ≡ false) r
 no_semicolon ampersand = (refl, (refl, (refl, tt)))
 no_semicolon less = (refl, (refl, tt))
 no_semicolon greater = (refl, (refl, tt))

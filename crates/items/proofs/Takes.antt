@@ -1,6 +1,6 @@
 -- The scanner finds every item that the grammar describes.
 use Rattle.std.proofs.Common.{◌≡◌, ℕ, ◌+◌, true, false, ◌||◌, eqb, ◌⊎◌, List, [], ◌∷◌, ◌++◌, length, Some, Option, sym, refl, ap, ◌∙◌, subst, inl, inr, ⊎_elim, arith}
-use Rattle.std.specs.List.{AllByRecursion as All}
+use Rattle.std.specs.List.{AllByRecursion}
 use Rattle.std.proofs.lemmas.Bool.{ne_eqb, eq-eqb, cases_eq}
 use Rattle.characters.specs.Classes.{In, white_ranges, is_white, is_name}
 use Rattle.characters.specs.Deciding.{white_decides}
@@ -55,7 +55,7 @@ target_white n x = white_is (λ c. move (target n) c ≡ on data') (rw x) (rw x)
 abbrev Begins : Mode → (Text → Mode) → Type 0
 Begins m hold = (c : ℕ) → is_name true c ≡ true → move m c ≡ on (hold (c ∷ []))
 
-over_name : {P : ℕ → Type 0} (m : Mode) (hold : Text → Mode) → Begins m hold → Gathers P hold → (c : ℕ) (n : Text) → is_name true c ≡ true → All P n → Goes m (c ∷ n) (hold (c ∷ n))
+over_name : {P : ℕ → Type 0} (m : Mode) (hold : Text → Mode) → Begins m hold → Gathers P hold → (c : ℕ) (n : Text) → is_name true c ≡ true → AllByRecursion P n → Goes m (c ∷ n) (hold (c ∷ n))
 over_name m hold first more c n e h = one (first c e) (absorb_all hold more (c ∷ []) n h)
 
 over_qname : (m : Mode) (hold : Text → Mode) → Begins m hold → Gathers (λ c. is_char_of_name c ≡ true) hold → (n : Text) → NameText n → Goes m n (hold n)

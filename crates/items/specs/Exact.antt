@@ -1,7 +1,7 @@
 -- What is proved of the scanner.
-use Rattle.std.specs.Prelude.{◌≡◌, ℕ, ◌+◌, ◌<◌, length, Some, None}
+use Rattle.std.specs.Prelude.{◌≡◌, ◌<◌, length, Some}
 use Rattle.names.specs.Order.{Text}
-use Rattle.items.specs.Tokens.{Token, references_of}
+use Rattle.items.specs.Tokens.{Token}
 use Rattle.items.specs.Grammar.{Item}
 use Rattle.items.specs.Scan.{item}
 

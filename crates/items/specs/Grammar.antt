@@ -1,9 +1,9 @@
 -- The grammar of one item, in the words of XML 1.0: which text spells it. Line ends are U+000A already. A text that is no item is
 -- not described.
 use Rattle.std.specs.Prelude.{◌≡◌, ℕ, ◌+◌, ◌-◌, ◌*◌, Bool, true, false, cond, ◌&&◌, ◌||◌, ◌≢◌, ◌⊎◌, List, [], ◌∷◌, ◌++◌, length, codes, ◌==◌, nat_le}
-use Rattle.std.specs.List.{AllByRecursion as All}
+use Rattle.std.specs.List.{AllByRecursion}
 use Rattle.characters.specs.Classes.{is_white}
-use Rattle.names.specs.Order.{Text, same}
+use Rattle.names.specs.Order.{Text}
 use Rattle.items.specs.Tokens.{QName, written, NcName, IsQName, Piece, literal, Attr, Token, Start, Empty, End, Comment, Instruction, Doctype, Cdata, Words}
 
 -- things spelt one after the other
@@ -13,7 +13,7 @@ pub data Each {A : Type 0} (R : Text → A → Type 0) : Text → List A → Typ
 
 -- white space, and white space that must be there
 abbrev pub White : Text → Type 0
-White z = All (λ c. is_white c ≡ true) z
+White z = AllByRecursion (λ c. is_white c ≡ true) z
 
 abbrev pub Space : Text → Type 0
 Space [] = ⊥
@@ -35,7 +35,7 @@ number base n (c ∷ t) = number base (n * base + digit c) t
 
 abbrev pub Digits : (ℕ → Bool) → Text → Type 0
 Digits f [] = ⊥
-Digits f (c ∷ t) = (f c ≡ true) × All (λ d. f d ≡ true) t
+Digits f (c ∷ t) = (f c ≡ true) × AllByRecursion (λ d. f d ≡ true) t
 
 -- what stands between `&` and `;`, and the number of the character that it names
 pub data Refers : Text → ℕ → Type 0 where

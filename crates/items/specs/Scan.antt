@@ -1,8 +1,8 @@
 -- The scanner: it finds the item at the front of a text, character by character.
-use Rattle.std.specs.Prelude.{ℕ, ◌+◌, Bool, true, false, cond, not, ◌&&◌, ◌||◌, List, [], ◌∷◌, ◌++◌, length, Some, None, codes, Option, ◌==◌}
+use Rattle.std.specs.Prelude.{ℕ, ◌+◌, Bool, true, false, cond, ◌&&◌, ◌||◌, List, [], ◌∷◌, ◌++◌, length, Some, None, codes, Option, ◌==◌}
 use Rattle.characters.specs.Classes.{is_white, is_name}
 use Rattle.names.specs.Order.{Text, same}
-use Rattle.items.specs.Tokens.{QName, bare, prefixed, written, Piece, literal, Attr, Token, Start, Empty, End, Comment, Instruction, Doctype, Cdata, Words}
+use Rattle.items.specs.Tokens.{QName, bare, prefixed, Piece, literal, Attr, Token, Start, Empty, End, Comment, Instruction, Doctype, Cdata, Words}
 use Rattle.items.specs.Grammar.{is_decimal, is_hexadecimal, number, spaced, is_xml_word}
 
 -- Names: a text is split at its first colon.

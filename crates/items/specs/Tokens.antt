@@ -1,6 +1,6 @@
 -- The items of marked-up text, and what is kept of each.
-use Rattle.std.specs.Prelude.{◌≡◌, ℕ, ◌+◌, Bool, true, false, cond, ◌&&◌, ◌||◌, List, [], ◌∷◌, ◌++◌, length, nat_lt}
-use Rattle.std.specs.List.{AllByRecursion as All}
+use Rattle.std.specs.Prelude.{◌≡◌, ℕ, ◌+◌, true, false, cond, List, [], ◌∷◌, ◌++◌, length, nat_lt}
+use Rattle.std.specs.List.{AllByRecursion}
 use Rattle.characters.specs.Classes.{is_name}
 use Rattle.names.specs.Order.{Text}
 
@@ -16,7 +16,7 @@ written (prefixed p l) = p ++ (58 ∷ l)
 -- a name without a colon
 abbrev pub NcName : Text → Type 0
 NcName [] = ⊥
-NcName (c ∷ t) = (is_name true c ≡ true) × All (λ d. is_name false d ≡ true) t
+NcName (c ∷ t) = (is_name true c ≡ true) × AllByRecursion (λ d. is_name false d ≡ true) t
 
 abbrev pub IsQName : QName → Type 0
 IsQName (bare l) = NcName l

@@ -1,8 +1,8 @@
 -- Markup in which nothing is wrong where certain bindings are in force.
-use Rattle.std.proofs.Common.{◌≡◌, ℕ, ◌<◌, ◌≤◌, cond, List, [], ◌∷◌, length, Some, None, sym, refl, ap, ◌∙◌, ap₂, arith}
-use Rattle.std.specs.List.{AllByRecursion as All}
-use Rattle.tree.specs.Order.{Text, Name}
-use Rattle.tree.proofs.Never.{never}
+use Rattle.std.proofs.Common.{◌≡◌, ℕ, ◌<◌, ◌≤◌, cond, List, [], ◌∷◌, length, Some, None, refl, ap₂, arith}
+use Rattle.std.specs.List.{AllByRecursion}
+use Rattle.names.specs.Order.{Text, Name}
+use Rattle.names.proofs.Never.{never}
 use Rattle.characters.specs.declared.escapes.Where.TheVariants.{Attribute as Quoted}
 use Rattle.markup.specs.Elements.{Attribute, Markup, nothing, words, element}
 use Rattle.xml.specs.Namespaces.{Member, Repeats, Scope, declares, binding, is_declared, in_force, element_name, attribute_name, field_of, fields, expansions, expanded_names, SomeWrong, prefixes}
@@ -25,7 +25,7 @@ fields-by sc (a ∷ as') =
 -- what a start tag keeps
 pub record FineTag (sc : Scope) (n : Text) (as' : List Attribute) : Type 0 where
   pub name : Named n
-  pub names : All (λ a. Named a.name) as'
+  pub names : AllByRecursion (λ a. Named a.name) as'
   -- the name has a meaning, and it is not that of a declaration
   pub means : Name
   pub known : element_name (in_force (attrs_of as') sc) (name_of n) ≡ Some means

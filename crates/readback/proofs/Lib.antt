@@ -5,3 +5,10 @@ pub mod Tags
 pub mod Good
 pub mod Ways
 pub mod Walks
+pub mod Calm
+pub mod Taken
+pub mod Locals
+pub mod Declared
+pub mod Own
+pub mod Inner
+pub mod Trees

@@ -1,13 +1,13 @@
 -- Line ends: a text without U+000D stays as it is.
-use Rattle.std.proofs.Common.{◌≡◌, ℕ, ◌≢◌, [], ◌∷◌, refl, ap}
-use Rattle.std.specs.List.{AllByRecursion as All}
+use Rattle.std.proofs.Common.{◌≡◌, ◌≢◌, [], ◌∷◌, refl, ap}
+use Rattle.std.specs.List.{AllByRecursion}
 use Rattle.std.proofs.lemmas.Bool.{ne_eqb}
-use Rattle.tree.specs.Order.{Text}
+use Rattle.names.specs.Order.{Text}
 use Rattle.xml.specs.Reading.{unixed}
 
 -- no U+000D stands in it
 abbrev pub Calm : Text → Type 0
-Calm s = All (λ c. c ≢ 13) s
+Calm s = AllByRecursion (λ c. c ≢ 13) s
 
 pub calm_unixed : (s : Text) → Calm s → unixed s ≡ s
 unfolding unixed

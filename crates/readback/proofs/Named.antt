@@ -1,7 +1,7 @@
 -- Names as they are written in markup, and the names that the scanner reads them as.
-use Rattle.std.proofs.Common.{◌≡◌, ℕ, [], ◌∷◌, ◌++◌, sym, refl, ap, ◌∙◌, subst}
-use Rattle.tree.specs.Order.{Text}
-use Rattle.items.specs.Tokens.{QName, bare, prefixed, written, NcName, IsQName}
+use Rattle.std.proofs.Common.{◌≡◌, sym, ap, subst}
+use Rattle.names.specs.Order.{Text}
+use Rattle.items.specs.Tokens.{QName, written, IsQName}
 use Rattle.items.proofs.Names.{name-reads}
 use Rattle.readback.specs.Meaning.{or_bare, name_of}
 

@@ -1,17 +1,15 @@
 -- Texts and values as they are spelt: the pieces that they are read as.
-use Rattle.std.proofs.Common.{◌≡◌, ℕ, ◌+◌, Bool, true, false, cond, eqb, ◌≢◌, List, [], ◌∷◌, ◌++◌, length, codes, sym, refl, ap, subst, arith}
-use Rattle.std.specs.List.{AllByRecursion as All}
-use Rattle.std.proofs.lemmas.Bool.{eqb-true, eqb-false, cond_both, cond-false}
-use Rattle.std.proofs.lemmas.Bool.Decides.{not_from_Decides}
+use Rattle.std.proofs.Common.{◌≡◌, ℕ, ◌+◌, true, eqb, ◌≢◌, List, [], ◌∷◌, ◌++◌, length, codes, sym, refl, ap, subst, append-nil, arith}
+use Rattle.std.specs.List.{AllByRecursion}
+use Rattle.std.proofs.lemmas.Bool.{eqb-true, eqb-false, cond_both}
 use Rattle.characters.specs.Classes.{In, white_ranges, is_white}
-use Rattle.characters.specs.Deciding.{white_decides, within_none}
-use Rattle.characters.specs.Spelling.{spelt, spelling, spellings}
-use Rattle.characters.specs.Safe.{greater_spelling}
+use Rattle.characters.specs.Deciding.{white_decides}
+use Rattle.characters.specs.Spelling.{spelling, spellings}
 use Rattle.characters.specs.declared.escapes.Where.{Where}
 use Rattle.characters.specs.declared.escapes.Where.TheVariants.{Content, Attribute as Quoted}
-use Rattle.tree.specs.Order.{Text}
-use Rattle.items.specs.Tokens.{Piece, literal, chars, Token, Words}
-use Rattle.items.specs.Grammar.{Each, no_more, next, Refers, ampersand, less, greater, quote, hexadecimal, InText, InValue, spaced, NoCdataEnd, Stops, Item, run}
+use Rattle.names.specs.Order.{Text}
+use Rattle.items.specs.Tokens.{Piece, literal, chars, Words}
+use Rattle.items.specs.Grammar.{Each, no_more, next, Refers, ampersand, less, greater, quote, hexadecimal, InText, InValue, spaced, Stops, Item, run}
 
 -- a character is read as one piece, as wide as its spelling
 abbrev pub piece : Where → ℕ → Piece
@@ -81,14 +79,42 @@ no_greater c e =
     let v : length (spelling Content c) ≡ 4 = ap (λ x. length (spelling Content x)) d in
     omega arith
 
-no_greaters : (t : Text) → All (λ p. p ≡ literal 62 → ⊥) (pieces Content t)
+no_greaters : (t : Text) → AllByRecursion (λ p. p ≡ literal 62 → ⊥) (pieces Content t)
 no_greaters [] = tt
 no_greaters (c ∷ t) = (no_greater c, no_greaters t)
 
-buried : (ys zs : List Piece) → All (λ p. p ≡ literal 62 → ⊥) (ys ++ (literal 93 ∷ literal 93 ∷ literal 62 ∷ zs)) → ⊥
+buried : (ys zs : List Piece) → AllByRecursion (λ p. p ≡ literal 62 → ⊥) (ys ++ (literal 93 ∷ literal 93 ∷ literal 62 ∷ zs)) → ⊥
 buried [] zs h = h.1.1.0 refl
 buried (y ∷ ys) zs h = buried ys zs h.1
 
 -- a text that is not empty is a run, up to the next `<` or the end
 pub text_item : (c : ℕ) (t r : Text) → Stops r → Item (spellings Content (c ∷ t) ++ r) (Words (piece Content c) (pieces Content t)) r
-text_item c t r h = run (each-text (c ∷ t)) (λ ys zs e. buried ys zs (subst (All (λ p. p ≡ literal 62 → ⊥)) e (no_greaters (c ∷ t)))) h
+text_item c t r h = run (each-text (c ∷ t)) (λ ys zs e. buried ys zs (subst (AllByRecursion (λ p. p ≡ literal 62 → ⊥)) e (no_greaters (c ∷ t)))) h
+
+-- white space
+abbrev pub Blank : ℕ → Type 0
+Blank c = is_white c ≡ true
+
+abbrev pub literals : Text → List Piece
+literals [] = []
+literals (c ∷ t) = literal c ∷ literals t
+
+in_blank : (c : ℕ) → Blank c → InText (c ∷ []) (literal c)
+in_blank c h = let w : In white_ranges c = (white_decides c).0 h in InText.itself c (omega arith) (omega arith)
+
+each_blank : (t : Text) → AllByRecursion Blank t → Each InText t (literals t)
+each_blank [] h = no_more
+each_blank (c ∷ t) h = next (in_blank c h.0) (each_blank t h.1)
+
+no_blank_greater : (c : ℕ) → Blank c → literal c ≡ literal 62 → ⊥
+no_blank_greater c h e = let w : In white_ranges c = (white_decides c).0 h in let d : c ≡ 62 = ap (λ (p : Piece). p.char) e in omega arith
+
+no_blank_greaters : (t : Text) → AllByRecursion Blank t → AllByRecursion (λ p. p ≡ literal 62 → ⊥) (literals t)
+no_blank_greaters [] h = tt
+no_blank_greaters (c ∷ t) h = (no_blank_greater c h.0, no_blank_greaters t h.1)
+
+-- white space to the end is a run
+pub blank_item : (c : ℕ) (t : Text) → AllByRecursion Blank (c ∷ t) → Item (c ∷ t) (Words (literal c) (literals t)) []
+blank_item c t h =
+    subst (λ s. Item s (Words (literal c) (literals t)) []) (append-nil (c ∷ t))
+    (run (each_blank (c ∷ t) h) (λ ys zs e. buried ys zs (subst (AllByRecursion (λ p. p ≡ literal 62 → ⊥)) e (no_blank_greaters (c ∷ t) h))) tt)

@@ -1,10 +1,10 @@
 -- Tags as they are spelt are items.
-use Rattle.std.proofs.Common.{◌≡◌, ℕ, ◌+◌, List, [], ◌∷◌, ◌++◌, length, refl, subst, inl}
-use Rattle.std.specs.List.{AllByRecursion as All}
+use Rattle.std.proofs.Common.{◌+◌, List, [], ◌∷◌, ◌++◌, length, refl, subst, inl}
+use Rattle.std.specs.List.{AllByRecursion}
 use Rattle.characters.specs.Classes.{is_white}
 use Rattle.characters.specs.Spelling.{spellings}
 use Rattle.characters.specs.declared.escapes.Where.TheVariants.{Attribute as Quoted}
-use Rattle.tree.specs.Order.{Text}
+use Rattle.names.specs.Order.{Text}
 use Rattle.items.specs.Tokens.{written, Attr, Start, End}
 use Rattle.items.specs.Grammar.{Each, no_more, next, IsAttr, attribute, IsTag, start, end, Item, tag}
 use Rattle.markup.specs.Elements.{Attribute, attribute_text, attributes_text, start_tag, end_tag}
@@ -26,12 +26,12 @@ attribute_spelt a h =
     subst (λ n. IsAttr (32 ∷ (n ++ (61 ∷ 34 ∷ (spellings Quoted a.value ++ (34 ∷ []))))) (attr_of a)) h.same
     (attribute (32 ∷ []) [] [] (name_of a.name) 34 (refl, tt) h.proper tt tt (inl refl) (each-value a.value))
 
-attributes-spelt : (as' : List Attribute) → All (λ a. Named a.name) as' → Each IsAttr (attributes_text as') (attrs_of as')
+attributes-spelt : (as' : List Attribute) → AllByRecursion (λ a. Named a.name) as' → Each IsAttr (attributes_text as') (attrs_of as')
 attributes-spelt [] h = no_more
 attributes-spelt (a ∷ as') h = next (attribute_spelt a h.0) (attributes-spelt as' h.1)
 
 -- tags
-pub start_item : (n : Text) (as' : List Attribute) (r : Text) → Named n → All (λ a. Named a.name) as' → Item (start_tag n as' ++ r) (Start (name_of n) (attrs_of as')) r
+pub start_item : (n : Text) (as' : List Attribute) (r : Text) → Named n → AllByRecursion (λ a. Named a.name) as' → Item (start_tag n as' ++ r) (Start (name_of n) (attrs_of as')) r
 start_item n as' r h k =
     tag (subst (λ m. IsTag (60 ∷ (m ++ (attributes_text as' ++ (62 ∷ [])))) (Start (name_of n) (attrs_of as'))) h.same (start (name_of n) [] h.proper (attributes-spelt as' k) tt))
 

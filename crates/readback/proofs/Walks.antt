@@ -1,20 +1,20 @@
 -- Good markup is walked without anything wrong, and what is read is what it means.
 use Rattle.std.proofs.Common.{◌≡◌, ℕ, suc, ◌+◌, ◌<◌, ◌≤◌, List, [], ◌∷◌, ◌++◌, length, Some, sym, refl, ap, ◌∙◌, subst, ap₂, append_assoc, arith}
-use Rattle.std.specs.List.{AllByRecursion as All}
+use Rattle.std.specs.List.{AllByRecursion}
 use Rattle.std.proofs.ByRecursion.{All-weaker}
 use Rattle.characters.specs.Spelling.{spellings}
 use Rattle.characters.specs.declared.escapes.Where.TheVariants.{Content as Running}
-use Rattle.tree.specs.Order.{Text, Name}
-use Rattle.tree.specs.Names.{XmlText}
-use Rattle.items.specs.Tokens.{QName, Piece, chars, Attr, Token, Start, End, Words}
-use Rattle.items.specs.Grammar.{Item, Stops}
+use Rattle.names.specs.Order.{Text, Name}
+use Rattle.names.specs.Xml.{XmlText}
+use Rattle.items.specs.Tokens.{QName, Piece, chars, Attr, Start, End, Words}
+use Rattle.items.specs.Grammar.{Stops}
 use Rattle.markup.specs.Elements.{Attribute, Markup, nothing, words, element, start_tag, end_tag, markup_text, opened}
 use Rattle.markup.specs.Clean.{XmlMarkup}
-use Rattle.xml.specs.Namespaces.{Scope, in_force, element_name, Field, fields}
-use Rattle.xml.specs.Document.{Content, nothing as nothing', words as words', element as element', behind}
-use Rattle.xml.specs.Rules.{Frame, Context, building, finished, scope_of, joined, grown, closed, frame_of, opened as opened', after, Wrong, WrongTag, start, unmatched}
+use Rattle.xml.specs.Namespaces.{Scope, base, in_force, element_name, fields}
+use Rattle.xml.specs.Document.{Content, nothing as nothing', words as words', element as element', Document, behind}
+use Rattle.xml.specs.Rules.{Frame, Context, building, finished, outside, document_of, scope_of, joined, grown, frame_of, opened as opened', Wrong, WrongTag, start, unmatched}
 use Rattle.xml.proofs.Least.{stay}
-use Rattle.readback.specs.Meaning.{Plain, none, said, held, plain, name_of, or_none, declared_by, fields_by, meaning}
+use Rattle.readback.specs.Meaning.{Plain, none, said, held, plain, plain_document, name_of, or_none, fields_by, meaning}
 use Rattle.readback.proofs.Pieces.{piece, pieces, chars-pieces, text_item}
 use Rattle.readback.proofs.Tags.{attrs_of, start_item, end_item}
 use Rattle.readback.proofs.Good.{FineTag, Tagged, Good, in_force_lem, fields-by, fine_tag}
@@ -62,7 +62,7 @@ abbrev pub begun : ℕ → Text → List Attribute → Scope → Name → Frame
 begun p n as' sc m = frame_of p (name_of n) (attrs_of as') (in_force (attrs_of as') sc) m
 
 -- a start tag opens its element
-pub tag_opens : (gs : List Frame) (p : ℕ) (n : Text) (as' : List Attribute) (s : Text) {e : ℕ} {d : Context} {q : Text} (f : FineTag (scope_of gs) n as') → length gs < 32 → All (λ a. XmlText a.value) as'
+pub tag_opens : (gs : List Frame) (p : ℕ) (n : Text) (as' : List Attribute) (s : Text) {e : ℕ} {d : Context} {q : Text} (f : FineTag (scope_of gs) n as') → length gs < 32 → AllByRecursion (λ a. XmlText a.value) as'
     → Way (behind p (start_tag n as' ++ s) s) (building (begun p n as' (scope_of gs) f.means ∷ gs)) s e d q → Way p (building gs) (start_tag n as' ++ s) e d q
 tag_opens gs p n as' s {e} {d} {q} f l x w =
     step (start_item n as' s f.name f.names) (fine_start gs (name_of n) (attrs_of as') (fine_tag gs n as' f l)) (no_inner (Start (name_of n) (attrs_of as')) (attrs_xml as' _ x))
@@ -97,7 +97,7 @@ module _ (g : Frame) (gs : List Frame) (p : ℕ) (n : Text) (as' : List Attribut
   abbrev inner : Frame
   inner = begun p n as' g.scope f.means
 
-  element_walked : suc (length gs) < 32 → All (λ a. XmlText a.value) as'
+  element_walked : suc (length gs) < 32 → AllByRecursion (λ a. XmlText a.value) as'
       → (u : Walked inner (g ∷ gs) (behind p (start_tag n as' ++ (s ++ (end_tag n ++ b))) (s ++ (end_tag n ++ b))) (s ++ (end_tag n ++ b)) (end_tag n ++ b) (meaning inner.scope c))
       → Walked (grown g (element' p f.means inner.fields u.content nothing')) gs (behind u.place (end_tag n ++ b) b) b q (meaning g.scope r)
       → Walked g gs p (start_tag n as' ++ (s ++ (end_tag n ++ b))) q (meaning g.scope (element n as' c r))
@@ -120,7 +120,7 @@ tagged-stops nothing r h k = k
 tagged-stops (words t m) r h k = absurd h
 tagged-stops (element n as' c m) r h k = refl
 
-pub values_xml : (as' : List Attribute) → All (λ a. XmlText a.name × XmlText a.value) as' → All (λ a. XmlText a.value) as'
+pub values_xml : (as' : List Attribute) → AllByRecursion (λ a. XmlText a.name × XmlText a.value) as' → AllByRecursion (λ a. XmlText a.value) as'
 values_xml as' h = All-weaker _ _ (λ a k. k.1) as' h
 
 pub markup_walked : (m : Markup) (g : Frame) (gs : List Frame) (p : ℕ) (r : Text) → Good g.scope m → XmlMarkup m → suc (length gs) + opened m ≤ 32 → Stops r → Walked g gs p (markup_text m ++ r) r (meaning g.scope m)
@@ -136,3 +136,27 @@ markup_walked (element n as' c m) g gs p r h x l k =
     let u = markup_walked c (begun p n as' g.scope h.0.means) (g ∷ gs) (behind p (start_tag n as' ++ (markup_text c ++ (end_tag n ++ b))) (markup_text c ++ (end_tag n ++ b))) (end_tag n ++ b) h.1 x.2 (omega arith) refl in
     subst (λ s. Walked g gs p s r (meaning g.scope (element n as' c m))) (sym (regroup (start_tag n as') (markup_text c) (end_tag n) (markup_text m) r))
     (element_walked g gs p n as' c m (markup_text c) b r h.0 (omega arith) (values_xml as' x.1) u (markup_walked m _ gs _ r h.2 x.3 (omega arith) k))
+
+-- a good root is walked to its document, with r to come behind it
+pub record Rooted (s r : Text) (m : Markup) : Type 0 where
+  pub document : Document
+  pub place : ℕ
+  pub way : Way 0 outside s place (finished document) r
+  pub says : plain_document document ≡ meaning base m
+
+pub root_walked : (n : Text) (as' : List Attribute) (c : Markup) (r : Text) → Good base (element n as' c nothing) → XmlMarkup (element n as' c nothing) → opened (element n as' c nothing) ≤ 32
+    → Rooted (markup_text (element n as' c nothing) ++ r) r (element n as' c nothing)
+unfolding markup_text meaning
+root_walked n as' c r h x l =
+    let f = h.0 in
+    let s : Text = markup_text c ++ (end_tag n ++ r) in
+    let g : Frame = begun 0 n as' base f.means in
+    let u = markup_walked c g [] (behind 0 (start_tag n as' ++ s) s) (end_tag n ++ r) h.1 x.2 (omega arith) refl in
+    record {
+      document = document_of (grown g u.content);
+      place = behind u.place (end_tag n ++ r) r;
+      way = subst (λ z. Way 0 outside z (behind u.place (end_tag n ++ r) r) (finished (document_of (grown g u.content))) r) (sym (regroup (start_tag n as') (markup_text c) (end_tag n) [] r))
+          (tag_opens [] 0 n as' s f (omega arith) (values_xml as' x.1)
+          (way_on u.way (step (end_item n r f.name) (fine_end (grown g u.content) []) (no_inner (End (name_of n)) tt) stay)));
+      says = ap (λ z. held f.means g.fields z none) u.says ∙ element_means base n as' c nothing f.means f.known;
+    }

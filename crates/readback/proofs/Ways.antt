@@ -1,15 +1,15 @@
 -- Walks over items with nothing wrong.
-use Rattle.std.proofs.Common.{◌≡◌, ℕ, ◌+◌, true, false, ltb, List, [], ◌∷◌, ◌++◌, length, sym, refl, subst, inl, inr}
-use Rattle.std.specs.List.{AllByRecursion as All}
+use Rattle.std.proofs.Common.{◌≡◌, ℕ, ◌+◌, true, ltb, List, [], ◌∷◌, length, sym, subst, inl, inr}
+use Rattle.std.specs.List.{AllByRecursion}
 use Rattle.std.proofs.ByRecursion.{All-append}
 use Rattle.std.proofs.lemmas.Bool.{both_ways, cond_both}
 use Rattle.characters.specs.Classes.{is_xml}
 use Rattle.characters.specs.Spelling.{spelling}
 use Rattle.characters.specs.declared.escapes.Where.{Where}
 use Rattle.characters.specs.declared.escapes.Where.TheVariants.{Attribute as Quoted}
-use Rattle.tree.specs.Order.{Text}
-use Rattle.tree.specs.Names.{XmlText}
-use Rattle.items.specs.Tokens.{Piece, widths, Attr, Token, references, attr_references, references_of, written}
+use Rattle.names.specs.Order.{Text}
+use Rattle.names.specs.Xml.{XmlText}
+use Rattle.items.specs.Tokens.{Token, references, attr_references, references_of}
 use Rattle.items.specs.Grammar.{Item}
 use Rattle.markup.specs.Elements.{Attribute}
 use Rattle.xml.specs.Faults.{At, ill_formed, misplaced, inside, unfinished}
@@ -44,25 +44,25 @@ way_on stay g = g
 way_on (go h i w) g = go h i (way_on w g)
 
 -- References.
-abbrev Named-xml : ℕ × ℕ → Type 0
-Named-xml x = is_xml x.1 ≡ true
+abbrev pub NamedXml : ℕ × ℕ → Type 0
+NamedXml x = is_xml x.1 ≡ true
 
-member_all : {A : Type 0} (P : A → Type 0) (x : A) (xs : List A) → All P xs → Member x xs → P x
+pub member_all : {A : Type 0} (P : A → Type 0) (x : A) (xs : List A) → AllByRecursion P xs → Member x xs → P x
 member_all P x [] h m = absurd m
 member_all P x (y ∷ ys) h (inl e) = subst P (sym e) h.0
 member_all P x (y ∷ ys) h (inr m) = member_all P x ys h.1 m
 
-pub no_inner : (t : Token) → All Named-xml (references_of t) → (k n : ℕ) → Inner t k n → ⊥
-no_inner t h k n (refers c m e) = both_ways (is_xml c) e (member_all Named-xml (k, c) (references_of t) h m)
+pub no_inner : (t : Token) → AllByRecursion NamedXml (references_of t) → (k n : ℕ) → Inner t k n → ⊥
+no_inner t h k n (refers c m e) = both_ways (is_xml c) e (member_all NamedXml (k, c) (references_of t) h m)
 
 -- those of spelt texts and values
-pub pieces-xml : (k : ℕ) (w : Where) (t : Text) → XmlText t → All Named-xml (references k (pieces w t))
+pub pieces-xml : (k : ℕ) (w : Where) (t : Text) → XmlText t → AllByRecursion NamedXml (references k (pieces w t))
 pieces-xml k w [] h = tt
 pieces-xml k w (c ∷ t) h =
     let j : ℕ = k + length (spelling w c) in
     let l = pieces-xml j w t h.1 in
-    cond_both (ltb 1 (length (spelling w c))) ((k, c) ∷ references j (pieces w t)) (references j (pieces w t)) (All Named-xml) (λ _. (h.0, l)) (λ _. l)
+    cond_both (ltb 1 (length (spelling w c))) ((k, c) ∷ references j (pieces w t)) (references j (pieces w t)) (AllByRecursion NamedXml) (λ _. (h.0, l)) (λ _. l)
 
-pub attrs_xml : (as' : List Attribute) (k : ℕ) → All (λ a. XmlText a.value) as' → All Named-xml (attr_references k (attrs_of as'))
+pub attrs_xml : (as' : List Attribute) (k : ℕ) → AllByRecursion (λ a. XmlText a.value) as' → AllByRecursion NamedXml (attr_references k (attrs_of as'))
 attrs_xml [] k h = tt
-attrs_xml (a ∷ as') k h = All-append Named-xml (references _ (pieces Quoted a.value)) _ (pieces-xml _ Quoted a.value h.0) (attrs_xml as' _ h.1)
+attrs_xml (a ∷ as') k h = All-append NamedXml (references _ (pieces Quoted a.value)) _ (pieces-xml _ Quoted a.value h.0) (attrs_xml as' _ h.1)

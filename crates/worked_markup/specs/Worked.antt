@@ -1,8 +1,8 @@
 -- Worked texts: what each is read as, or with which number and at which place it is refused.
-use Rattle.std.specs.Prelude.{◌≡◌, ℕ, List, [], ◌∷◌, ◌++◌, replicate, codes}
+use Rattle.std.specs.Prelude.{◌≡◌, List, [], ◌∷◌, ◌++◌, replicate, codes}
 use Rattle.std.specs.List.{flat_map}
 use Rattle.names.specs.Order.{Text, Name}
-use Rattle.xml.specs.Faults.{Answer, taken, refused}
+use Rattle.xml.specs.Faults.{taken, refused}
 use Rattle.xml.specs.Namespaces.{Field}
 use Rattle.xml.specs.Document.{Content, nothing, words, element, Document}
 use Rattle.xml.specs.Reading.{reads}

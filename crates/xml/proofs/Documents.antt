@@ -1,12 +1,12 @@
 -- A walk over the items of a text without anything wrong, to the end of its root, and the document that the text is: each gives the other.
-use Rattle.std.proofs.Common.{◌≡◌, ℕ, zero, suc, ◌+◌, ◌-◌, ◌<◌, ◌≤◌, Bool, true, false, ◌⊎◌, List, [], ◌∷◌, Some, None, Option, sym, refl, ap, ◌∙◌, subst, inl, inr, ⊎_elim, arith}
+use Rattle.std.proofs.Common.{◌≡◌, ℕ, zero, suc, ◌<◌, ◌⊎◌, List, [], ◌∷◌, Some, None, Option, sym, refl, ap, subst, ⊎_elim, arith}
 use Rattle.names.specs.Order.{Text, Name}
 use Rattle.items.specs.Tokens.{QName, Piece, chars, Attr, Token, Start, Empty, End, Comment, Instruction, Doctype, Cdata, Words}
 use Rattle.items.specs.Grammar.{Item}
 use Rattle.xml.specs.Faults.{Front, here, next}
 use Rattle.xml.specs.Namespaces.{Scope, base, in_force, element_name, Field, fields}
 use Rattle.xml.specs.Document.{Content, nothing, words, element, Document, behind, Contents, Root, LiteralWhite, Around, IsDocument}
-use Rattle.xml.specs.Rules.{Frame, Context, building, finished, outside, scope_of, joined, grown, document_of, closed, frame_of, opened, passed, shut, after, Wrong, WrongTag, unknown_element, start, empty, second_start, second_empty, unmatched, loose_end, loose_before, loose_after, doctype, cdata, Innermost, Lacks, Inner}
+use Rattle.xml.specs.Rules.{Frame, Context, building, finished, outside, scope_of, joined, closed, frame_of, opened, passed, after, Wrong, unknown_element, start, empty, second_start, second_empty, unmatched, loose_end, loose_before, loose_after, doctype, cdata, Lacks, Inner}
 
 abbrev Fr : ℕ → Context → Text → ℕ → Context → Text → Type 0
 Fr = Front Item after Wrong Inner Lacks

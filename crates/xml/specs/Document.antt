@@ -1,9 +1,9 @@
 -- Documents: elements with their expanded names, each in its place. Comments, instructions and declarations are gone.
 use Rattle.std.specs.Prelude.{◌≡◌, ℕ, ◌+◌, ◌-◌, true, List, [], ◌∷◌, length, Some}
-use Rattle.std.specs.List.{AllByRecursion as All}
+use Rattle.std.specs.List.{AllByRecursion}
 use Rattle.characters.specs.Classes.{is_white}
 use Rattle.names.specs.Order.{Text, Name}
-use Rattle.items.specs.Tokens.{QName, Piece, chars, Attr, Token, Start, Empty, End, Comment, Instruction, Words}
+use Rattle.items.specs.Tokens.{QName, Piece, chars, Attr, Start, Empty, End, Comment, Instruction, Words}
 use Rattle.items.specs.Grammar.{Item}
 use Rattle.xml.specs.Namespaces.{Scope, base, in_force, element_name, Field, fields}
 
@@ -42,7 +42,7 @@ pub data Root : ℕ → Text → Document → ℕ → Text → Type 0 where
 
 -- what may stand around the root: comments, instructions, white space that stands for itself
 abbrev pub LiteralWhite : List Piece → Type 0
-LiteralWhite ps = All (λ a. (a.width ≡ 1) × (is_white a.char ≡ true)) ps
+LiteralWhite ps = AllByRecursion (λ a. (a.width ≡ 1) × (is_white a.char ≡ true)) ps
 
 pub data Around : ℕ → Text → ℕ → Text → Type 0 where
   done : {p : ℕ} {s : Text} → Around p s p s

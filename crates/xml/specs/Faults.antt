@@ -1,6 +1,6 @@
 -- The faults of a text that is made of items, and the least of them. What an item is, what is wrong with one where it stands and
 -- what is lacking at the end are given; a text that is no item is not described.
-use Rattle.std.specs.Prelude.{◌≡◌, ℕ, ◌+◌, ◌-◌, ◌<◌, ◌≤◌, List, [], length, Some, None, Option, ◌≢◌, slice_index}
+use Rattle.std.specs.Prelude.{◌≡◌, ℕ, ◌+◌, ◌-◌, ◌<◌, ◌≤◌, [], length, Some, None, Option, ◌≢◌, slice_index}
 use Rattle.names.specs.Order.{Text}
 
 module _ {T C : Type 0} (Item : Text → T → Text → Type 0) (after : ℕ → C → T → C) (Wrong : C → T → ℕ → Type 0) (Inner : T → ℕ → ℕ → Type 0) (Lacks : C → ℕ → Type 0) where

@@ -1,8 +1,8 @@
 -- Namespaces: the bindings in force, and what a name means under them.
-use Rattle.std.specs.Prelude.{◌≡◌, ℕ, suc, Bool, true, false, cond, not, ◌&&◌, ◌||◌, ◌⊎◌, List, [], ◌∷◌, length, Some, None, codes, Option, ◌≢◌}
-use Rattle.names.specs.Order.{Text, Name, same, same_name}
+use Rattle.std.specs.Prelude.{◌≡◌, Bool, true, false, cond, ◌||◌, ◌⊎◌, List, [], ◌∷◌, Some, None, codes, Option, ◌≢◌}
+use Rattle.names.specs.Order.{Text, Name, same}
 use Rattle.names.specs.Reserved.{xml_uri, xmlns_uri}
-use Rattle.items.specs.Tokens.{QName, bare, prefixed, written, chars, Attr}
+use Rattle.items.specs.Tokens.{QName, bare, prefixed, chars, Attr}
 
 -- one of a list, and two of a list that are equal
 abbrev pub Member : {A : Type 0} → A → List A → Type 0

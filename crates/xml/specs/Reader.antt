@@ -1,5 +1,5 @@
 -- A reader: it walks over the items, looks at each character besides, and answers the lesser of the two faults.
-use Rattle.std.specs.Prelude.{ℕ, zero, suc, ◌+◌, ◌-◌, Bool, true, false, cond, List, [], ◌∷◌, length, Some, None, Option, nat_le, nat_lt}
+use Rattle.std.specs.Prelude.{ℕ, zero, suc, ◌+◌, ◌-◌, Bool, true, false, cond, [], ◌∷◌, length, Some, None, Option, nat_le, nat_lt}
 use Rattle.names.specs.Order.{Text}
 use Rattle.xml.specs.Faults.{Answer, taken, refused}
 

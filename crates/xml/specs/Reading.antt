@@ -1,5 +1,5 @@
 -- Reading marked-up text: line ends first, then the items.
-use Rattle.std.specs.Prelude.{◌≡◌, ℕ, ◌+◌, ◌<◌, ◌≤◌, Bool, true, false, cond, not, ◌&&◌, ◌↔◌, List, [], ◌∷◌, length, ◌==◌, slice_index}
+use Rattle.std.specs.Prelude.{◌≡◌, ℕ, ◌+◌, Bool, true, false, cond, not, ◌&&◌, ◌↔◌, List, [], ◌∷◌, length, ◌==◌, slice_index}
 use Rattle.characters.specs.Classes.{is_xml}
 use Rattle.names.specs.Order.{Text}
 use Rattle.items.specs.Grammar.{Item}

@@ -1,10 +1,10 @@
 -- What is wrong with an item where it stands: the open elements and the bindings in force decide.
-use Rattle.std.specs.Prelude.{◌≡◌, ℕ, suc, ◌<◌, ◌≤◌, Bool, true, false, cond, not, ◌&&◌, ◌||◌, ◌⊎◌, List, [], ◌∷◌, map, length, Some, None, codes, Option, ◌==◌, nat_le, nat_lt}
+use Rattle.std.specs.Prelude.{◌≡◌, ℕ, ◌<◌, ◌≤◌, Bool, true, false, cond, not, ◌&&◌, ◌||◌, List, [], ◌∷◌, length, Some, None, codes, Option, ◌==◌, nat_le, nat_lt}
 use Rattle.characters.specs.Classes.{is_xml, is_white}
 use Rattle.names.specs.Order.{Text, Name, same, same_name}
 use Rattle.names.specs.Reserved.{xml_uri, xmlns_uri}
 use Rattle.items.specs.Tokens.{QName, bare, prefixed, written, Piece, chars, Attr, Token, Start, Empty, End, Comment, Instruction, Doctype, Cdata, Words, references_of}
-use Rattle.xml.specs.Namespaces.{Member, Repeats, Scope, base, declares, in_force, element_name, attribute_name, Field, fields, expansions, expanded_names, SomeWrong, prefixes, is_among}
+use Rattle.xml.specs.Namespaces.{Member, Repeats, Scope, base, declares, in_force, element_name, Field, fields, expansions, expanded_names, SomeWrong, prefixes, is_among}
 use Rattle.xml.specs.Document.{Content, nothing, words, element, Document, LiteralWhite}
 
 -- an open element: its name as written, its place, its name, its attributes, what it holds so far, the bindings in force inside

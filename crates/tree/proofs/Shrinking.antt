@@ -98,7 +98,7 @@ replace-none (name n) v = record { head = refl; qualifiers = left_refl v.qualifi
 replace-none (number k) v = record { head = refl; qualifiers = left_refl v.qualifiers; parts = item-none (k - 1) v.parts }
 replace-none (qualifier n) v = record { head = refl; qualifiers = named_none n v.qualifiers; parts = left_refl v.parts }
 
--- A node that is met, and what is left of it put in its place. In a row without order `putNamed` would add a node where `find`
+-- A node that is met, and what is left of it put in its place. In a row without order `put_named` would add a node where `find`
 -- meets one further on, so this is said of lawful rows.
 pub named_left : (k : Row) → Naming k → (n : Name) (w u : Node) (ns : Nodes) → LawfulNodes k ns → find n ns ≡ Some u → LeftNode w u
     → Left (put_named n (Some w) ns) ns

@@ -11,7 +11,7 @@ use Rattle.volume.specs.Blocks.{blocks, readable}
 unfoldable pub verdicts : List ℕ → List Bool
 verdicts bs = map (readable bs) (range_with_len 0 2048)
 
--- the cells, where `sound` says which blocks are. With the verdicts on the bytes it is `volumeCells`
+-- the cells, where `sound` says which blocks are. With the verdicts on the bytes it is `volume_cells`
 abbrev pub seen_at : List Bool → List ℕ → ℕ → Cell
 seen_at sound bs p = cond (slice_index_or sound (p / 508) false) (byte (slice_index bs (512 * (p / 508) + p % 508))) lost
 

@@ -19,7 +19,7 @@ padded_all : (P : ℕ → Type 0) → P 10 → P 32 → (k n : ℕ) → AllByRec
 padded_all P f s k zero = tt
 padded_all P f s k (suc n) = (cond_both (eqb (k % 100) 0) 10 32 P (λ _. f) (λ _. s), padded_all P f s (k + 1) n)
 
-padding-all : (P : ℕ → Type 0) → P 10 → P 32 → (n : ℕ) → AllByRecursion P (padding n)
+pub padding-all : (P : ℕ → Type 0) → P 10 → P 32 → (n : ℕ) → AllByRecursion P (padding n)
 unfolding padding
 padding-all P f s n = padded_all P f s 1 n
 

@@ -1,8 +1,8 @@
 -- Good markup, as it is spelt, and padding have no U+000D.
-use Rattle.std.proofs.Common.{◌≡◌, ℕ, zero, suc, ◌+◌, ◌%◌, true, eqb, ◌≢◌, List, [], ◌∷◌, ◌++◌, map, sym, refl, subst, arith}
-use Rattle.std.specs.List.{range_with_len, AllByRecursion}
+use Rattle.std.proofs.Common.{◌≡◌, ℕ, true, ◌≢◌, List, [], ◌∷◌, ◌++◌, sym, refl, subst, arith}
+use Rattle.std.specs.List.{AllByRecursion}
 use Rattle.std.proofs.ByRecursion.{All-append, All-weaker}
-use Rattle.std.proofs.lemmas.Bool.{both_ways, cond_both}
+use Rattle.std.proofs.lemmas.Bool.{both_ways}
 use Rattle.characters.specs.Classes.{is_white}
 use Rattle.characters.specs.Spelling.{spellings}
 use Rattle.characters.specs.Safe.{Quiet, spellings-quiet}
@@ -14,7 +14,8 @@ use Rattle.items.specs.Scan.{is_char_of_name}
 use Rattle.items.proofs.Names.{NameText, name-text, white_ends, first_next, next_char}
 use Rattle.markup.specs.Elements.{Attribute, attribute_text, attributes_text, Markup, nothing, words, element, start_tag, end_tag, markup_text}
 use Rattle.xml.specs.Namespaces.{Scope, in_force}
-use Rattle.canonical.specs.Packet.{padding_at, padding}
+use Rattle.canonical.specs.Packet.{padding}
+use Rattle.canonical.proofs.Padding.{padding-all}
 use Rattle.readback.specs.Meaning.{name_of}
 use Rattle.readback.proofs.Named.{Named}
 use Rattle.readback.proofs.Lines.{Calm}
@@ -71,14 +72,5 @@ markup_calm sc (element n as' c r) h =
     (calm_both (markup_text c) (end_tag n ++ markup_text r) (markup_calm (in_force (attrs_of as') sc) c h.1)
     (calm_both (end_tag n) (markup_text r) (end_calm n h.0.name) (markup_calm sc r h.2)))
 
--- what holds of a line feed and of a space holds of padding
-padded_all : (P : ℕ → Type 0) → P 10 → P 32 → (k n : ℕ) → AllByRecursion P (map padding_at (range_with_len k n))
-padded_all P f s k zero = tt
-padded_all P f s k (suc n) = (cond_both (eqb (k % 100) 0) 10 32 P (λ _. f) (λ _. s), padded_all P f s (k + 1) n)
-
-pub padding_all : (P : ℕ → Type 0) → P 10 → P 32 → (n : ℕ) → AllByRecursion P (padding n)
-unfolding padding
-padding_all P f s n = padded_all P f s 1 n
-
 pub padding_calm : (n : ℕ) → Calm (padding n)
-padding_calm n = padding_all NotReturn (omega arith) (omega arith) n
+padding_calm n = padding-all NotReturn (omega arith) (omega arith) n

@@ -15,7 +15,7 @@ use Rattle.xml.specs.Rules.{finished, outside, after, Wrong, loose_after, Lacks,
 use Rattle.xml.specs.Reading.{unixed, UnixFault, MarkupFault, of, reads}
 use Rattle.xml.proofs.Least.{no_item, stay, clean_front, beyond, front_same}
 use Rattle.xml.proofs.Right.{markup_takes, markup_faultless}
-use Rattle.readback.proofs.Calm.{padding_all}
+use Rattle.canonical.proofs.Padding.{padding-all}
 use Rattle.readback.proofs.Pieces.{Blank, literals, blank_item}
 use Rattle.readback.proofs.Ways.{Way, clears, step, no_inner, NamedXml}
 
@@ -38,7 +38,7 @@ blank_walked d p (c ∷ t) h =
 
 pub padding_walked : (d : Document) (p n : ℕ) → (e : ℕ) × Way p (finished d) (padding n) e (finished d) []
 unfolding is_white
-padding_walked d p n = blank_walked d p (padding n) (padding_all Blank refl refl n)
+padding_walked d p n = blank_walked d p (padding n) (padding-all Blank refl refl n)
 
 -- nothing is wrong where a document has ended and so has the text
 nothing_wrong : (d : Document) (k n : ℕ) → At Item after Wrong Inner Lacks (finished d) [] k n → ⊥

@@ -13,6 +13,7 @@ use Rattle.markup.specs.Clean.{XmlMarkup}
 use Rattle.xml.specs.Namespaces.{Scope, base, in_force, element_name, fields}
 use Rattle.xml.specs.Document.{Content, nothing as nothing', words as words', element as element', Document, behind}
 use Rattle.xml.specs.Rules.{Frame, Context, building, finished, outside, document_of, scope_of, joined, grown, frame_of, opened as opened', Wrong, WrongTag, start, unmatched}
+use Rattle.xml.proofs.Documents.{joined-joined}
 use Rattle.xml.proofs.Least.{stay}
 use Rattle.readback.specs.Meaning.{Plain, none, said, held, plain, plain_document, name_of, or_none, fields_by, meaning}
 use Rattle.readback.proofs.Pieces.{piece, pieces, chars-pieces, text_item}
@@ -25,11 +26,6 @@ joined-nothing : (c : Content) → joined c nothing' ≡ c
 joined-nothing nothing' = refl
 joined-nothing (words' p t c) = ap (words' p t) (joined-nothing c)
 joined-nothing (element' p n fs i c) = ap (element' p n fs i) (joined-nothing c)
-
-joined-joined : (c d e : Content) → joined (joined c d) e ≡ joined c (joined d e)
-joined-joined nothing' d e = refl
-joined-joined (words' p t c) d e = ap (words' p t) (joined-joined c d e)
-joined-joined (element' p n fs i c) d e = ap (element' p n fs i) (joined-joined c d e)
 
 abbrev holding : Frame → Content → Frame
 holding g c = record { written = g.written; place = g.place; name = g.name; fields = g.fields; content = c; scope = g.scope }

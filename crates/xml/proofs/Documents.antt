@@ -17,7 +17,7 @@ joined-nothing nothing = refl
 joined-nothing (words p t c) = ap (words p t) (joined-nothing c)
 joined-nothing (element p n fs i c) = ap (element p n fs i) (joined-nothing c)
 
-joined-joined : (c d e : Content) → joined (joined c d) e ≡ joined c (joined d e)
+pub joined-joined : (c d e : Content) → joined (joined c d) e ≡ joined c (joined d e)
 joined-joined nothing d e = refl
 joined-joined (words p t c) d e = ap (words p t) (joined-joined c d e)
 joined-joined (element p n fs i c) d e = ap (element p n fs i) (joined-joined c d e)

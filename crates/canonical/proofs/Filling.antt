@@ -5,7 +5,7 @@ use Rattle.std.specs.List.{range_with_len}
 use Rattle.std.proofs.ByRecursion.{All-append}
 use Rattle.std.proofs.lemmas.Bool.{cond_both, cond-false, leb-true, leb-false, lt-leb}
 use Rattle.characters.specs.Classes.{is_xml}
-use Rattle.characters.specs.Members.{xml_scalar}
+use Rattle.characters.proofs.Members.{xml_scalar}
 use Rattle.code.specs.Codes.{Scalar, Laws}
 use Rattle.text.specs.Stands.{bytes_of}
 use Rattle.text.proofs.Standing.{bytes_append}

@@ -4,7 +4,7 @@ use Rattle.std.specs.List.{AllByRecursion}
 use Rattle.std.proofs.ByRecursion.{All-append, All-weaker}
 use Rattle.std.proofs.lemmas.Bool.{cond_both, ltb-true}
 use Rattle.characters.specs.Classes.{In, local_at, is_xml, is_local}
-use Rattle.characters.specs.Deciding.{xml_decides, local_decides}
+use Rattle.characters.proofs.Deciding.{xml_decides, local_decides}
 use Rattle.names.specs.Order.{Text, Name, same}
 use Rattle.names.specs.Xml.{XmlText}
 use Rattle.tree.specs.Names.{LocalName}

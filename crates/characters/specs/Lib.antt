@@ -1,5 +1,4 @@
 pub mod Classes
-pub mod Deciding
 pub mod Members
 pub mod Spelling
 pub mod Safe

@@ -1,6 +1,7 @@
 // Classes of characters.
 //
-// Each function answers whether a character lies in the ranges of its class. `first` says that the character opens a name.
+// Each function answers whether a character lies in the ranges of its class. `first` says that the character opens a name. Where it
+// counts, the class stays a match on ranges with guards, to be held against its table line by line: a rule of the project.
 ghost use Rattle.std.specs.Prelude.{◌≡◌};
 ghost use Rattle.characters.specs.Classes.{is_local, is_name, is_tag, is_white, is_xml};
 ghost use Rattle.characters.specs.Theorems.{ClassesDecided, NamesPlain};
@@ -10,11 +11,10 @@ ghost use Rattle.characters.specs.Theorems.{ClassesDecided, NamesPlain};
 pub fn is_xml_char(c: char) -> bool
     ensures { result ≡ is_xml c }
 {
-    match c {
-        '\t' | '\n' | '\r' => true,
-        ' '..='\u{d7ff}' | '\u{e000}'..='\u{fffd}' | '\u{10000}'..='\u{10ffff}' => true,
-        _ => false,
-    }
+    matches!(
+        c,
+        '\t' | '\n' | '\r' | ' '..='\u{d7ff}' | '\u{e000}'..='\u{fffd}' | '\u{10000}'..='\u{10ffff}'
+    )
 }
 
 // Tab, line feed, carriage return and space.
@@ -22,10 +22,7 @@ pub fn is_xml_char(c: char) -> bool
 pub fn is_white_space(c: char) -> bool
     ensures { result ≡ is_white c }
 {
-    match c {
-        '\t' | '\n' | '\r' | ' ' => true,
-        _ => false,
-    }
+    matches!(c, '\t' | '\n' | '\r' | ' ')
 }
 
 // A character of a local name: ASCII letters and `_`, and behind the first also digits, `.` and `-`.
@@ -45,10 +42,7 @@ pub fn is_local_name_char(c: char, first: bool) -> bool
 pub fn is_language_tag_char(c: char) -> bool
     ensures { result ≡ is_tag c }
 {
-    match c {
-        'A'..='Z' | 'a'..='z' | '0'..='9' | '-' => true,
-        _ => false,
-    }
+    matches!(c, 'A'..='Z' | 'a'..='z' | '0'..='9' | '-')
 }
 
 // A character of a name of XML 1.0 (fifth edition) that has no colon.

@@ -1,5 +1,6 @@
 -- What a text code is, and what its calls answer.
 use Rattle.std.specs.Prelude.{◌≡◌, ℕ, ◌*◌, ◌<◌, ◌≤◌, List, length, take, Ok, Err, Result, slice_index}
+use Rattle.arrayvec.specs.ArrayVec.{ArrayVec}
 use Rattle.code.specs.declared.failure.CodeFault.{CodeFault}
 use Rattle.code.specs.declared.failure.CodeFault.TheVariants.{Unread, NoCharacter}
 
@@ -23,9 +24,9 @@ pub record Laws (enc : ℕ → List ℕ) (unit : ℕ) : Type 0 where
   pub newline : length (enc 10) ≡ unit
   pub whole : (v : ℕ) → Scalar v → (n : ℕ) × (length (enc v) ≡ n * unit)
 
--- the bytes of v stand first in an array, with their count, or v is no scalar value
-abbrev pub Encoded : (ℕ → List ℕ) → ℕ → Result (List ℕ × ℕ) CodeFault → Type 0
-Encoded enc v (Ok p) = Scalar v × (take p.1 p.0 ≡ enc v) × (p.1 ≡ length (enc v))
+-- the bytes of v, or v is no scalar value
+abbrev pub Encoded : (ℕ → List ℕ) → ℕ → Result (ArrayVec ℕ) CodeFault → Type 0
+Encoded enc v (Ok b) = Scalar v × (b.items ≡ enc v)
 Encoded enc v (Err (NoCharacter p)) = (p ≡ 0) × (Scalar v → ⊥)
 Encoded enc v (Err (Unread e)) = ⊥
 

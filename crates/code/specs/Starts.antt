@@ -1,28 +1,10 @@
 -- What is known of a list from the few elements that it begins with, and of bytes in a row.
 use Rattle.std.specs.Prelude.{◌≡◌, ℕ, zero, suc, ◌<◌, ◌≤◌, List, [], ◌∷◌, ◌++◌, length, take, drop, slice_index, refl}
-use Rattle.std.proofs.Common.{ap, arith, length-take, length-drop}
+use Rattle.std.proofs.Common.{sym, ap, ◌∙◌, arith, length-take, length-drop}
+use Rattle.std.proofs.lemmas.List.{get_or-take}
 
-pub read1 : (bs : List ℕ) (x : ℕ) → take 1 bs ≡ x ∷ [] → (1 ≤ length bs) × (slice_index bs 0 ≡ x)
-read1 [] x e = let z : ◌≡◌ {A = ℕ} 0 1 = cc in absurd (omega arith)
-read1 (a ∷ bs) x e = (omega arith, cc)
-
-pub read2 : (bs : List ℕ) (x y : ℕ) → take 2 bs ≡ x ∷ y ∷ [] → (2 ≤ length bs) × (slice_index bs 0 ≡ x) × (slice_index bs 1 ≡ y)
-read2 [] x y e = let z : ◌≡◌ {A = ℕ} 0 1 = cc in absurd (omega arith)
-read2 (a ∷ []) x y e = let z : ◌≡◌ {A = ℕ} 0 1 = cc in absurd (omega arith)
-read2 (a ∷ b ∷ bs) x y e = (omega arith, cc, cc)
-
-pub read3 : (bs : List ℕ) (x y z : ℕ) → take 3 bs ≡ x ∷ y ∷ z ∷ [] → (3 ≤ length bs) × (slice_index bs 0 ≡ x) × (slice_index bs 1 ≡ y) × (slice_index bs 2 ≡ z)
-read3 [] x y z e = let q : ◌≡◌ {A = ℕ} 0 1 = cc in absurd (omega arith)
-read3 (a ∷ []) x y z e = let q : ◌≡◌ {A = ℕ} 0 1 = cc in absurd (omega arith)
-read3 (a ∷ b ∷ []) x y z e = let q : ◌≡◌ {A = ℕ} 0 1 = cc in absurd (omega arith)
-read3 (a ∷ b ∷ c ∷ bs) x y z e = (omega arith, cc, cc, cc)
-
-pub read4 : (bs : List ℕ) (x y z w : ℕ) → take 4 bs ≡ x ∷ y ∷ z ∷ w ∷ [] → (4 ≤ length bs) × (slice_index bs 0 ≡ x) × (slice_index bs 1 ≡ y) × (slice_index bs 2 ≡ z) × (slice_index bs 3 ≡ w)
-read4 [] x y z w e = let q : ◌≡◌ {A = ℕ} 0 1 = cc in absurd (omega arith)
-read4 (a ∷ []) x y z w e = let q : ◌≡◌ {A = ℕ} 0 1 = cc in absurd (omega arith)
-read4 (a ∷ b ∷ []) x y z w e = let q : ◌≡◌ {A = ℕ} 0 1 = cc in absurd (omega arith)
-read4 (a ∷ b ∷ c ∷ []) x y z w e = let q : ◌≡◌ {A = ℕ} 0 1 = cc in absurd (omega arith)
-read4 (a ∷ b ∷ c ∷ d ∷ bs) x y z w e = (omega arith, cc, cc, cc, cc)
+pub starts : (bs x : List ℕ) → take (length x) bs ≡ x → (length x ≤ length bs) × ((i : ℕ) → i < length x → slice_index bs i ≡ slice_index x i)
+starts bs x e = (omega (arith, length-take (length x) bs, ap length e), λ i h. sym (get_or-take (length x) bs i 0 h) ∙ ap (λ l. slice_index l i) e)
 
 -- a list that begins with two others in a row
 starts_both : (bs x y : List ℕ) → take (length (x ++ y)) bs ≡ x ++ y → (take (length x) bs ≡ x) × (take (length y) (drop (length x) bs) ≡ y)

@@ -1,5 +1,5 @@
 -- UTF-16: one or two units of sixteen bits, each of them two bytes.
-use Rattle.std.specs.Prelude.{◌≡◌, ℕ, ◌+◌, ◌-◌, ◌/◌, ◌%◌, ◌<◌, cond, List, [], ◌∷◌, ◌++◌, length, nat_lt, slice_index}
+use Rattle.std.specs.Prelude.{◌≡◌, ℕ, ◌+◌, ◌-◌, ◌/◌, ◌%◌, ◌<◌, ◌≤◌, cond, List, [], ◌∷◌, ◌++◌, length, Some, None, Option, nat_lt, slice_index}
 
 -- the two bytes of a unit, the most significant first
 abbrev pub big_pair : ℕ → List ℕ
@@ -21,6 +21,11 @@ leading v = 55296 + (v - 65536) / 1024
 
 abbrev pub trailing : ℕ → ℕ
 trailing v = 56320 + (v - 65536) % 1024
+
+-- the number whose surrogates a and b are, if there is one
+abbrev pub Surrogates : ℕ → ℕ → Option ℕ → Type 0
+Surrogates a b (Some v) = (65536 ≤ v) × (v < 1114112) × (a ≡ leading v) × (b ≡ trailing v)
+Surrogates a b None = (v : ℕ) → 65536 ≤ v → v < 1114112 → a ≡ leading v → b ≡ trailing v → ⊥
 
 unfoldable pub enc16 : (ℕ → List ℕ) → ℕ → List ℕ
 enc16 pair v = cond (nat_lt v 65536) (pair v) (pair (leading v) ++ pair (trailing v))

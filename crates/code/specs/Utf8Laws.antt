@@ -3,7 +3,7 @@ use Rattle.std.specs.Prelude.{◌≡◌, ℕ, ◌+◌, ◌/◌, ◌%◌, ◌<◌
 use Rattle.std.proofs.Common.{sym, subst, ◌∙◌, inl, inr, ⊎_elim, arith}
 use Rattle.std.proofs.lemmas.Bool.{lt-ltb, le-ltb, cond-true, cond-false, cases_lt}
 use Rattle.code.specs.Codes.{Scalar, Begins, Laws}
-use Rattle.code.specs.Starts.{read1, read2, read3, read4, Small, small1, small2, small3, small4}
+use Rattle.code.specs.Starts.{starts, Small, small1, small2, small3, small4}
 use Rattle.code.specs.Utf8.{one, two, three, four, enc8}
 
 pub enc8-one : (v : ℕ) → v < 128 → enc8 v ≡ one v
@@ -53,10 +53,10 @@ Forms bs v = IsOne bs v ⊎ (IsTwo bs v ⊎ (IsThree bs v ⊎ IsFour bs v))
 pub begins8 : (bs : List ℕ) (v : ℕ) → Begins enc8 v bs → Forms bs v
 begins8 bs v =
     by_width (λ l. Starts bs l → Forms bs v) v
-    (λ h b. let r = read1 bs _ b in inl (h, r.0, r.1))
-    (λ l h b. let r = read2 bs _ _ b in inr (inl (l, h, r.0, r.1, r.2)))
-    (λ l h b. let r = read3 bs _ _ _ b in inr (inr (inl (l, h, r.0, r.1, r.2, r.3))))
-    (λ l b. let r = read4 bs _ _ _ _ b in inr (inr (inr (l, r.0, r.1, r.2, r.3, r.4))))
+    (λ h b. let r = starts bs (one v) b in inl (h, r.0, r.1 0 (omega arith)))
+    (λ l h b. let r = starts bs (two v) b in inr (inl (l, h, r.0, r.1 0 (omega arith), r.1 1 (omega arith))))
+    (λ l h b. let r = starts bs (three v) b in inr (inr (inl (l, h, r.0, r.1 0 (omega arith), r.1 1 (omega arith), r.1 2 (omega arith)))))
+    (λ l b. let r = starts bs (four v) b in inr (inr (inr (l, r.0, r.1 0 (omega arith), r.1 1 (omega arith), r.1 2 (omega arith), r.1 3 (omega arith)))))
 
 apart8 : (v w : ℕ) → Scalar v → Scalar w → Begins enc8 v (enc8 w) → v ≡ w
 apart8 v w sv sw =

@@ -8,6 +8,9 @@
 ghost use Rattle.std.specs.Prelude.{◌≡◌, ℕ, List};
 ghost use Rattle.code.specs.Codes.{Decoded, Encoded, Laws};
 
+use arrayvec::ArrayVec;
+
+mod bytes;
 mod failure;
 mod scalar;
 mod utf16;
@@ -29,8 +32,8 @@ pub trait TextCode {
     fn unit() -> usize
         ensures { result ≡ unit };
 
-    // The bytes of a scalar value, and how many of the four they are.
-    fn encode(v: u32) -> Result<([u8; 4], usize), CodeFault>
+    // The bytes of a scalar value.
+    fn encode(v: u32) -> Result<ArrayVec<u8, 4>, CodeFault>
         ensures { Encoded enc v result };
 
     // The character whose bytes come first, and how many they are. Past the fourth byte nothing is looked at.

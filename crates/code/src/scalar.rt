@@ -8,8 +8,5 @@ use crate::failure::NO_CHARACTER;
 pub(crate) fn character(v: u32) -> Result<char, CodeFault>
     ensures { Tested v result }
 {
-    match char::from_u32(v) {
-        Some(c) => Ok(c),
-        None => Err(NO_CHARACTER),
-    }
+    char::from_u32(v).ok_or(NO_CHARACTER)
 }

@@ -3,12 +3,14 @@
 // A character below hexadecimal 10000 is one unit of sixteen bits. Another is two, a leading and a trailing surrogate with ten
 // bits each of what the number has above that. No surrogate is a character, so a unit tells which of these it is.
 ghost use Rattle.std.specs.Prelude.{◌≡◌, ℕ, List, [], ◌∷◌};
-ghost use Rattle.code.specs.Utf16.{Order, big_pair, enc16, little_pair};
+ghost use Rattle.code.specs.Utf16.{Order, Surrogates, big_pair, enc16, little_pair};
 ghost use Rattle.code.specs.Utf16Laws.{big_order, little_order, utf16_laws};
 
+use crate::bytes::bytes_of;
 use crate::failure::NO_CHARACTER;
 use crate::scalar::character;
 use crate::{CodeFault, TextCode};
+use arrayvec::ArrayVec;
 use std::marker::PhantomData;
 
 // How the two bytes of a unit stand.
@@ -80,34 +82,45 @@ impl<O: ByteOrder> TextCode for Utf16<O> {
         2
     }
 
-    fn encode(v: u32) -> Result<([u8; 4], usize), CodeFault> {
+    #[tactic(auto, unfolding(crate::specs::Utf16::enc16), using(crate::proofs::Forms16::two_wrote))]
+    fn encode(v: u32) -> Result<ArrayVec<u8, 4>, CodeFault> {
         character(v)?;
-        if v < 0x1_0000 {
-            let [a, b] = O::split(v as u16);
-            return Ok(([a, b, 0, 0], 2));
+        if let Ok(unit) = u16::try_from(v) {
+            return Ok(bytes_of(O::split(unit)));
         }
         let above = v - 0x1_0000;
         let [a, b] = O::split(0xd800 + (above / 0x400) as u16);
         let [c, d] = O::split(0xdc00 + (above % 0x400) as u16);
-        Ok(([a, b, c, d], 4))
+        Ok(bytes_of([a, b, c, d]))
     }
 
     fn decode(bytes: &[u8]) -> Result<(char, usize), CodeFault> {
-        if bytes.len() < 2 {
+        let [a, b, ..] = *bytes else {
             return Err(NO_CHARACTER);
-        }
-        let lead = u32::from(O::join(bytes[0], bytes[1]));
+        };
+        let lead = u32::from(O::join(a, b));
         if let Ok(c) = character(lead) {
             return Ok((c, 2));
         }
-        if bytes.len() < 4 {
+        let [_, _, c, d, ..] = *bytes else {
             return Err(NO_CHARACTER);
-        }
-        let trail = u32::from(O::join(bytes[2], bytes[3]));
-        if lead >= 0xdc00 || trail < 0xdc00 || trail >= 0xe000 {
+        };
+        let trail = u32::from(O::join(c, d));
+        let Some(v) = of_pair(lead, trail) else {
             return Err(NO_CHARACTER);
-        }
-        let v = 0x1_0000 + (lead - 0xd800) * 0x400 + (trail - 0xdc00);
+        };
         Ok((character(v)?, 4))
+    }
+}
+
+// The number whose leading and trailing surrogate these are.
+fn of_pair(lead: u32, trail: u32) -> Option<u32>
+    ensures { Surrogates lead trail result }
+{
+    match (lead, trail) {
+        (0xd800..=0xdbff, 0xdc00..=0xdfff) => {
+            Some(0x1_0000 + (lead - 0xd800) * 0x400 + (trail - 0xdc00))
+        }
+        _ => None,
     }
 }

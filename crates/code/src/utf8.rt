@@ -2,15 +2,17 @@
 //
 // A character below hexadecimal 80 is one byte. A longer one has a lead byte, which tells the count, and behind it one to three
 // tail bytes of six bits each, most significant first. Where a shorter form has the room, a longer one is no character.
-ghost use Rattle.std.specs.Prelude.{◌≡◌, ◌+◌, ◌%◌, ◌<◌, slice_index};
+ghost use Rattle.std.specs.Prelude.{◌≡◌, ◌+◌, ◌%◌};
 ghost use Rattle.code.specs.Codes.{Decoded};
-ghost use Rattle.code.specs.Tails.{TailAt};
+ghost use Rattle.code.specs.Tails.{Longer, TailAt};
 ghost use Rattle.code.specs.Utf8.{enc8};
 ghost use Rattle.code.specs.Utf8Laws.{utf8_laws};
 
+use crate::bytes::bytes_of;
 use crate::failure::NO_CHARACTER;
 use crate::scalar::character;
 use crate::{CodeFault, TextCode};
+use arrayvec::ArrayVec;
 
 #[derive(Clone, Copy)]
 pub struct Utf8;
@@ -26,42 +28,34 @@ impl TextCode for Utf8 {
         1
     }
 
-    fn encode(v: u32) -> Result<([u8; 4], usize), CodeFault> {
+    #[tactic(auto, unfolding(crate::specs::Utf8::enc8))]
+    fn encode(v: u32) -> Result<ArrayVec<u8, 4>, CodeFault> {
         character(v)?;
-        if v < 0x80 {
-            Ok(([v as u8, 0, 0, 0], 1))
-        } else if v < 0x800 {
-            Ok(([0xc0 + (v / 64) as u8, tail(v), 0, 0], 2))
-        } else if v < 0x1_0000 {
-            Ok(([0xe0 + (v / 64 / 64) as u8, tail(v / 64), tail(v), 0], 3))
-        } else {
-            Ok((
-                [
-                    0xf0 + (v / 64 / 64 / 64) as u8,
-                    tail(v / 64 / 64),
-                    tail(v / 64),
-                    tail(v),
-                ],
-                4,
-            ))
+        match v {
+            0..=0x7f => Ok(bytes_of([v as u8])),
+            0x80..=0x7ff => Ok(bytes_of([0xc0 + (v / 64) as u8, tail(v)])),
+            0x800..=0xffff => Ok(bytes_of([0xe0 + (v / 64 / 64) as u8, tail(v / 64), tail(v)])),
+            0x1_0000.. => Ok(bytes_of([
+                0xf0 + (v / 64 / 64 / 64) as u8,
+                tail(v / 64 / 64),
+                tail(v / 64),
+                tail(v),
+            ])),
         }
     }
 
+    #[tactic(auto, using(crate::proofs::Forms8::no_lead))]
     fn decode(bytes: &[u8]) -> Result<(char, usize), CodeFault> {
-        if bytes.is_empty() {
+        let [lead, ..] = *bytes else {
             return Err(NO_CHARACTER);
-        }
-        let lead = u32::from(bytes[0]);
-        if lead < 0x80 {
-            Ok((bytes[0] as char, 1))
-        } else if lead < 0xc0 {
-            Err(NO_CHARACTER)
-        } else if lead < 0xe0 {
-            of_two(bytes, lead - 0xc0)
-        } else if lead < 0xf0 {
-            of_three(bytes, lead - 0xe0)
-        } else {
-            of_four(bytes, lead - 0xf0)
+        };
+        match lead {
+            0..=0x7f => Ok((char::from(lead), 1)),
+            0x80..=0xbf => Err(NO_CHARACTER),
+            0xc0..=0xdf => longer(bytes, u32::from(lead - 0xc0), 2, 0x80),
+            0xe0..=0xef => longer(bytes, u32::from(lead - 0xe0), 3, 0x800),
+            // Of a lead byte above hexadecimal F4 comes a number that is no scalar value.
+            0xf0.. => longer(bytes, u32::from(lead - 0xf0), 4, 0x1_0000),
         }
     }
 }
@@ -77,58 +71,23 @@ fn tail(v: u32) -> u8
 fn tail_at(bytes: &[u8], at: usize) -> Result<u32, CodeFault>
     ensures { TailAt bytes.now at result }
 {
-    if at >= bytes.len() {
-        return Err(NO_CHARACTER);
-    }
-    let b = u32::from(bytes[at]);
-    if 0x80 <= b && b < 0xc0 {
-        Ok(b - 0x80)
-    } else {
-        Err(NO_CHARACTER)
+    match bytes.get(at) {
+        Some(b @ 0x80..=0xbf) => Ok(u32::from(b - 0x80)),
+        _ => Err(NO_CHARACTER),
     }
 }
 
-// A character of two bytes, whose lead byte holds the bits `lead`.
-fn of_two(bytes: &[u8], lead: u32) -> Result<(char, usize), CodeFault>
-    requires bytes_value { slice_index bytes.now 0 ≡ 192 + lead }
-    requires lead_bound { lead < 32 }
+// A character of `count` bytes, whose lead byte holds the bits `lead`. Below `least` a shorter form has the room.
+fn longer(bytes: &[u8], lead: u32, count: usize, least: u32) -> Result<(char, usize), CodeFault>
+    requires { Longer bytes.now lead count least }
     ensures { Decoded enc8 bytes.now result }
 {
-    let a = tail_at(bytes, 1)?;
-    let v = lead * 64 + a;
-    if v < 0x80 {
+    let mut v = lead;
+    for at in 1..count {
+        v = v * 64 + tail_at(bytes, at)?;
+    }
+    if v < least {
         return Err(NO_CHARACTER);
     }
-    Ok((character(v)?, 2))
-}
-
-// A character of three bytes, likewise.
-fn of_three(bytes: &[u8], lead: u32) -> Result<(char, usize), CodeFault>
-    requires bytes_value { slice_index bytes.now 0 ≡ 224 + lead }
-    requires lead_bound { lead < 16 }
-    ensures { Decoded enc8 bytes.now result }
-{
-    let a = tail_at(bytes, 1)?;
-    let b = tail_at(bytes, 2)?;
-    let v = (lead * 64 + a) * 64 + b;
-    if v < 0x800 {
-        return Err(NO_CHARACTER);
-    }
-    Ok((character(v)?, 3))
-}
-
-// A character of four bytes, likewise. Of a lead byte above hexadecimal F4 comes a number that is no scalar value.
-fn of_four(bytes: &[u8], lead: u32) -> Result<(char, usize), CodeFault>
-    requires bytes_value { slice_index bytes.now 0 ≡ 240 + lead }
-    requires lead_bound { lead < 16 }
-    ensures { Decoded enc8 bytes.now result }
-{
-    let a = tail_at(bytes, 1)?;
-    let b = tail_at(bytes, 2)?;
-    let c = tail_at(bytes, 3)?;
-    let v = ((lead * 64 + a) * 64 + b) * 64 + c;
-    if v < 0x1_0000 {
-        return Err(NO_CHARACTER);
-    }
-    Ok((character(v)?, 4))
+    Ok((character(v)?, count))
 }

@@ -5,8 +5,8 @@ use Rattle.std.proofs.lemmas.Bool.{eqb-true, ne_eqb, both_ways, cases_Bool, or_l
 use Rattle.std.proofs.lemmas.Bool.Decides.{Decides-and}
 use Rattle.std.proofs.ByRecursion.{Decides-by_and, All-append, All-weaker}
 use Rattle.characters.specs.Classes.{Ranges, In, name_first, name_more, is_name, is_white, white_ranges}
-use Rattle.characters.specs.Deciding.{name-decides, white_decides}
-use Rattle.characters.specs.Members.{name-plain}
+use Rattle.characters.proofs.Deciding.{name-decides, white_decides}
+use Rattle.characters.proofs.Members.{name-plain}
 use Rattle.names.specs.Order.{Text}
 use Rattle.items.specs.Tokens.{QName, bare, prefixed, written, NcName, IsQName}
 use Rattle.items.specs.Scan.{all_name, is_nc_name, onto, split, as_name, q_name, is_char_of_name}

@@ -3,7 +3,7 @@ use Rattle.std.proofs.Common.{◌≡◌, ℕ, ◌+◌, true, false, ◌||◌, eq
 use Rattle.std.specs.List.{AllByRecursion}
 use Rattle.std.proofs.lemmas.Bool.{ne_eqb, eq-eqb, cases_eq}
 use Rattle.characters.specs.Classes.{In, white_ranges, is_white, is_name}
-use Rattle.characters.specs.Deciding.{white_decides}
+use Rattle.characters.proofs.Deciding.{white_decides}
 use Rattle.names.specs.Order.{Text}
 use Rattle.items.specs.Tokens.{QName, written, IsQName, Piece, Attr, Token, Start, Empty, Instruction, Words}
 use Rattle.items.specs.Grammar.{White, Each, no_more, next, InText, InValue, InComment, IsAttr, attribute, is_xml_word, NoCdataEnd, NoInstructionEnd, InstructionData, IsTag, start, empty, end, comment, instruction, doctype, cdata, Stops, Item, tag, run}

@@ -5,6 +5,7 @@ use location::locate_text;
 use std::io;
 use std::io::Read;
 
+// (`reel` reads and prints alike; five lines are shorter than a crate that would hold them for both.)
 fn main(rt: HostRuntime) -> io::Result<()> {
     let heap = rt.alloc();
     let mut bytes = Vec::new(heap);

@@ -1,8 +1,6 @@
 -- What is said of the packet of a file.
 use Rattle.std.specs.Prelude.{◌≡◌, ℕ, Bool, true, false, ◌⊎◌, List, [], ◌∷◌, ◌++◌, codes, decimal}
-use Rattle.fault.specs.declared.Layer.{Layer}
-use Rattle.fault.specs.declared.Layer.TheVariants.{Medium, Code, Packet, Markup, Model, Tree}
-use Rattle.fault.specs.declared.Report.{Report}
+use Rattle.fault.specs.Text.{text_of_refusal}
 use Rattle.medium.specs.Cells.{Cell}
 use Rattle.packet.specs.Any.{FoundAny, NoneInAny}
 use Rattle.packet.specs.Faults.{told_packet}
@@ -26,18 +24,6 @@ abbrev pub text_of_found : AnyFound → List ℕ
 text_of_found (InUtf8 f) = text_of_packet (codes "UTF-8") f.extent.place f.extent.len f.writable
 text_of_found (InUtf16Be f) = text_of_packet (codes "UTF-16BE") f.extent.place f.extent.len f.writable
 text_of_found (InUtf16Le f) = text_of_packet (codes "UTF-16LE") f.extent.place f.extent.len f.writable
-
-abbrev pub word_of : Layer → List ℕ
-word_of Medium = codes "medium"
-word_of Code = codes "code"
-word_of Packet = codes "packet"
-word_of Markup = codes "markup"
-word_of Model = codes "model"
-word_of Tree = codes "tree"
-
--- one line: layer, number and place
-abbrev pub text_of_refusal : Report → List ℕ
-text_of_refusal r = word_of r.layer ++ (32 ∷ (decimal r.number ++ (32 ∷ (decimal r.place ++ (10 ∷ [])))))
 
 -- the text of the packet that finding answers, or of its refusal
 abbrev pub Located : List Cell → List ℕ → Type 0

@@ -2,18 +2,19 @@
 // refusal.
 #![tactic(auto)]
 
-ghost use Rattle.std.specs.Prelude.{◌≡◌, take, IfOk, string_bytes};
-ghost use Rattle.location.specs.Text.{Located, text_of_packet, text_of_found, text_of_refusal, word_of, yes_no};
-ghost use Rattle.medium.specs.Cells.{held};
+ghost use Rattle.std.specs.Prelude.{◌≡◌, IfOk, string_bytes};
+ghost use Rattle.fault.specs.Text.{text_of_refusal};
+ghost use Rattle.location.specs.Text.{Located, text_of_packet, text_of_found};
+ghost use Rattle.medium.specs.Cells.{flat_cells};
 
-use fault::{Fault, Layer, Report};
+use fault::{Fault, Report};
 use medium::Flat;
 use packet::{AnyFound, Extent, find_any};
 use std::alloc::{AllocError, Global};
 
 // The text that is said of a file's bytes. It is refused only for want of memory.
 pub fn locate_text(heap: Global, bytes: &mut [u8]) -> Result<String, AllocError>
-    ensures { IfOk result (λ s. Located (held (take 1048576 bytes.old)) (string_bytes s)) }
+    ensures { IfOk result (λ s. Located (flat_cells bytes.old) (string_bytes s)) }
 {
     let medium = Flat::new(bytes);
     match find_any(&medium) {
@@ -25,21 +26,12 @@ pub fn locate_text(heap: Global, bytes: &mut [u8]) -> Result<String, AllocError>
 fn found_text(heap: Global, found: AnyFound) -> Result<String, AllocError>
     ensures { IfOk result (λ s. string_bytes s ≡ text_of_found found) }
 {
-    match found {
-        AnyFound::InUtf8(found) => packet_text(heap, "UTF-8", found.extent(), found.writable()),
-        AnyFound::InUtf16Be(found) => packet_text(
-            heap,
-            "UTF-16BE",
-            found.extent(),
-            found.writable(),
-        ),
-        AnyFound::InUtf16Le(found) => packet_text(
-            heap,
-            "UTF-16LE",
-            found.extent(),
-            found.writable(),
-        ),
-    }
+    let (code, extent, writable) = match found {
+        AnyFound::InUtf8(found) => ("UTF-8", found.extent(), found.writable()),
+        AnyFound::InUtf16Be(found) => ("UTF-16BE", found.extent(), found.writable()),
+        AnyFound::InUtf16Le(found) => ("UTF-16LE", found.extent(), found.writable()),
+    };
+    packet_text(heap, code, extent, writable)
 }
 
 fn packet_text(
@@ -52,38 +44,13 @@ fn packet_text(
 {
     let place = extent.place();
     let len = extent.len();
-    let may = yes_or_no(writable);
+    let may = if writable { "yes" } else { "no" };
     format!(in heap; "code: {code}\nplace: {place}\nlength: {len}\nwritable: {may}\n")
-}
-
-fn yes_or_no(b: bool) -> &'static str
-    ensures { result.now ≡ yes_no b }
-{
-    if b { "yes" } else { "no" }
 }
 
 // The line of a refusal: layer, number and place.
 pub fn refusal_text(heap: Global, report: Report) -> Result<String, AllocError>
     ensures { IfOk result (λ s. string_bytes s ≡ text_of_refusal report) }
 {
-    let Report {
-        layer,
-        number,
-        place,
-    } = report;
-    let word = layer_word(layer);
-    format!(in heap; "{word} {number} {place}\n")
-}
-
-fn layer_word(layer: Layer) -> &'static str
-    ensures { result.now ≡ word_of layer }
-{
-    match layer {
-        Layer::Medium => "medium",
-        Layer::Code => "code",
-        Layer::Packet => "packet",
-        Layer::Markup => "markup",
-        Layer::Model => "model",
-        Layer::Tree => "tree",
-    }
+    format!(in heap; "{report}\n")
 }

@@ -4,7 +4,8 @@ use Rattle.std.specs.List.{AllByRecursion}
 use Rattle.std.proofs.ByRecursion.{All-append, All-push, All-weaker}
 use Rattle.characters.specs.Classes.{is_xml}
 use Rattle.characters.specs.Spelling.{spellings}
-use Rattle.characters.specs.Safe.{Quiet, spellings-quiet, spellings-xml}
+use Rattle.characters.specs.Safe.{Quiet}
+use Rattle.characters.proofs.Safe.{spellings-quiet, spellings-xml}
 use Rattle.characters.specs.declared.escapes.Where.TheVariants.{Content, Attribute as Quoted}
 use Rattle.names.specs.Order.{Text}
 use Rattle.names.specs.Xml.{XmlText}

@@ -11,6 +11,3 @@ ended P x e p = subst P (sym e) p
 -- a put on one list of cells is a put on an equal one
 pub from_start : (cs cs' ds : List Cell) (k b : ℕ) (r : Result (Unit {0}) MediumFault) → cs ≡ cs' → Put cs k b ds r → Put cs' k b ds r
 from_start cs cs' ds k b r e p = subst (λ xs. Put xs k b ds r) e p
-
-pub to_end : (cs ds ds' : List Cell) (k b : ℕ) (r : Result (Unit {0}) MediumFault) → ds ≡ ds' → Put cs k b ds r → Put cs k b ds' r
-to_end cs ds ds' k b r e p = subst (λ xs. Put cs k b xs r) e p

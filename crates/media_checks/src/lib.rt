@@ -4,10 +4,10 @@
 // speak of the caller's bytes alone shows that those of the media say enough.
 #![tactic(auto)]
 
-ghost use Rattle.std.specs.Prelude.{◌≡◌, ◌+◌, take};
+ghost use Rattle.std.specs.Prelude.{◌≡◌, ◌+◌};
 ghost use Rattle.media_checks.specs.After.{PutFetched};
 ghost use Rattle.medium.specs.Access.{Put, Replaced};
-ghost use Rattle.medium.specs.Cells.{held, window};
+ghost use Rattle.medium.specs.Cells.{flat_cells, window};
 ghost use Rattle.volume.specs.Blocks.{volume_cells};
 
 use medium::{Flat, Medium, MediumFault, Window};
@@ -18,19 +18,18 @@ mod tests;
 
 // Through a flat medium.
 pub fn put_flat(bytes: &mut [u8], at: usize, b: u8) -> Result<(), MediumFault>
-    ensures put { Put (held (take 1048576 bytes.old)) at b (held (take 1048576 bytes.new)) result }
+    ensures put { Put (flat_cells bytes.old) at b (flat_cells bytes.new) result }
     ensures bytes { Replaced bytes.old at b bytes.new result }
 {
-    let mut flat = Flat::new(bytes);
-    flat.put(at, b)
+    Flat::new(bytes).put(at, b)
 }
 
-// Through a reel volume.
+// Through a reel volume. (Not one generic function with `put_flat`: a type parameter for the medium names the loan's lifetime, and
+// then no contract can say what the bytes are after the call.)
 pub fn put_reel(bytes: &mut [u8], at: usize, b: u8) -> Result<(), MediumFault>
     ensures put { Put (volume_cells bytes.old) at b (volume_cells bytes.new) result }
 {
-    let mut reel = Volume::new(bytes);
-    reel.put(at, b)
+    Volume::new(bytes).put(at, b)
 }
 
 // Through a window over a medium that is lent to it, and then from that medium itself.

@@ -8,11 +8,7 @@ use volume::data_check;
 // One reel block whose data bytes are all `b`, and its check.
 fn block_of(b: u8) -> [u8; 512] {
     let mut block = [b; 512];
-    let check = data_check(&[b; 508]).to_be_bytes();
-    block[508] = check[0];
-    block[509] = check[1];
-    block[510] = check[2];
-    block[511] = check[3];
+    block[508..].copy_from_slice(&data_check(&[b; 508]).to_be_bytes());
     block
 }
 

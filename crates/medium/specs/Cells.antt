@@ -10,6 +10,10 @@ pub data Cell : Type 0 where
 abbrev pub held : List ℕ → List Cell
 held bs = map byte bs
 
+-- bytes as they lie, as cells: as many as a medium has, and the rest of the bytes are none
+abbrev pub flat_cells : List ℕ → List Cell
+flat_cells bs = held (take 1048576 bs)
+
 -- the cells from a place on, at most so many
 abbrev pub window : ℕ → ℕ → List Cell → List Cell
 window from len cs = take len (drop from cs)

@@ -1,6 +1,7 @@
 // Why a place of a medium has no byte.
-ghost use Rattle.std.specs.Prelude.{◌≡◌};
+ghost use Rattle.std.specs.Prelude.{◌≡◌, ◌<◌, ◌≤◌, MatchResult};
 ghost use Rattle.medium.specs.Faults.{told_medium};
+ghost use Rattle.medium.specs.declared.failure.MediumFault.TheVariants.{OutOfRange};
 
 use fault::{Fault, Layer, Report};
 
@@ -25,5 +26,16 @@ impl Fault for MediumFault {
             number,
             place,
         }
+    }
+}
+
+// Refuses a place that is not below the size.
+pub fn in_range(place: usize, size: usize) -> Result<(), MediumFault>
+    ensures { MatchResult result (λ _. place < size) (λ e. (e ≡ OutOfRange place) × (size ≤ place)) }
+{
+    if place < size {
+        Ok(())
+    } else {
+        Err(MediumFault::OutOfRange { place })
     }
 }

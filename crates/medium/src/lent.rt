@@ -1,5 +1,6 @@
 // A medium that is lent is a medium, so that whoever takes a medium takes one by `&mut` too.
-ghost use Rattle.medium.specs.Frames.{LentKept, lent_frame};
+ghost use Rattle.medium.specs.Frames.{LentKept};
+ghost use Rattle.medium.specs.Laws.{lent_frame};
 
 use crate::{Medium, MediumFault};
 
@@ -8,9 +9,9 @@ impl<'a, M: Medium> Medium for &'a mut M {
 
     ghost bounded = { λ r. M.Medium.bounded r.now };
 
-    ghost kept = { λ r s. LentKept M.Medium.kept r.ghost_name r.now s.ghost_name s.now };
+    ghost kept = { LentKept M.Medium.kept };
 
-    ghost frame = { lent_frame (λ x. x.ghost_name) (λ x. x.now) M.Medium.frame };
+    ghost frame = { lent_frame M.Medium.frame };
 
     fn size(&self) -> usize {
         (**self).size()

@@ -14,7 +14,7 @@ mod flat;
 mod lent;
 mod window;
 
-pub use failure::MediumFault;
+pub use failure::{MediumFault, in_range};
 pub use flat::Flat;
 pub use window::Window;
 

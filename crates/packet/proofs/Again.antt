@@ -1,12 +1,16 @@
 -- At most one header and one trailer stand at a place, and how long a trailer is.
-use Rattle.std.proofs.Common.{◌≡◌, ℕ, ◌+◌, ◌-◌, ◌*◌, ◌<◌, ◌≤◌, Bool, false, eqb, List, [], ◌∷◌, ◌++◌, length, Some, codes, sym, ap, ◌∙◌, subst, ap₂, inl, inr, arith, length-append}
+use Rattle.std.proofs.Common.{◌≡◌, ℕ, ◌+◌, ◌-◌, ◌*◌, ◌<◌, ◌≤◌, ◌==◌, nat_le, Bool, true, false, eqb, List, [], ◌∷◌, ◌++◌, length, Some, None, Option, MatchOption, codes, sym, refl, ap, ◌∙◌, subst, ap₂, inl, inr, arith, length-append}
+use Rattle.std.specs.Bool.{then_some}
+use Rattle.std.proofs.lemmas.Bool.{eqb-true, eqb-false, leb-true, leb-false}
 use Rattle.medium.specs.Cells.{Cell}
 use Rattle.code.specs.Codes.{Laws}
 use Rattle.text.specs.Stands.{Scalars, Stands, bytes_of}
 use Rattle.text.proofs.Standing as standing
 use Rattle.packet.specs.Texts.{Header, Quote, Trailer, packet_id}
 use Rattle.packet.specs.Parts.{Closing, Ends, Marked, Named, Naming, Quoting, Then}
-use Rattle.packet.specs.Finds.{mode_of}
+use Rattle.packet.specs.Finds.{TrailerAt, mode_of}
+use Rattle.packet.specs.Examines.{EndsAt, HeaderBy}
+use Rattle.packet.specs.declared.trailer.Ending.{Ending}
 use Rattle.packet.proofs.Bodies.{first, long}
 use Rattle.packet.proofs.Headings.{header-to}
 
@@ -81,6 +85,23 @@ module _ (enc : ℕ → List ℕ) (unit : ℕ) (laws : Laws enc unit) (cs : List
   trailer-ends k e f v w x y =
       let l = long enc unit laws cs (mode_of v) x.0 x.1 ∙ sym (long enc unit laws cs (mode_of w) y.0 y.1) in
       x.3 ∙ ap (λ t. k + length (bytes_of enc t)) (standing.same_text enc unit laws cs k x.0 y.0 l x.2 y.2) ∙ sym y.3
+
+  -- the header at k, taken if it ends by the limit
+  pub header-by : (k limit : ℕ) (a r : Option ℕ) → Ends enc cs (Header unit) k a → MatchOption a (r ≡ None) (λ e. r ≡ then_some (nat_le e limit) e) → HeaderBy enc cs unit limit k r
+  header-by k limit None r n e = rw e (λ f x l. n x.0 x.1 x.2)
+  header-by k limit (Some x) r t e = rw e (by (nat_le x limit) refl)
+    where
+      by : (b : Bool) → nat_le x limit ≡ b → HeaderBy enc cs unit limit k (then_some b x)
+      by true q = (t, leb-true x limit q)
+      by false q = λ f y l. let same = header-ends k x f t y in let h = leb-false x limit q in omega arith
+
+  -- the trailer at k, taken if it ends at the place
+  pub ends-at : (k end : ℕ) (x : Ending) (r : Option Bool) → TrailerAt enc cs k (Some x) → r ≡ then_some (x.end == end) x.writable → EndsAt enc cs end k r
+  ends-at k end x r t e = rw e (by (x.end == end) refl)
+    where
+      by : (b : Bool) → (x.end == end) ≡ b → EndsAt enc cs end k (then_some b x.writable)
+      by true q = subst (λ (n : ℕ). Ends enc cs (Trailer (mode_of x.writable)) k (Some n)) (eqb-true x.end end q) t
+      by false q = λ w y. eqb-false x.end end q (trailer-ends k x.end end x.writable w t y)
 
   -- a text takes at most four cells a character
   bytes_few : (t : List ℕ) → Scalars t → length (bytes_of enc t) ≤ 4 * length t

@@ -1,12 +1,15 @@
 -- From a header on to the first trailer.
-use Rattle.std.proofs.Common.{◌≡◌, ℕ, ◌+◌, ◌<◌, ◌≤◌, Bool, ◌⊎◌, List, ◌∷◌, length, Some, Ok, Err, sym, ap, ◌∙◌, subst, arith, length-append}
+use Rattle.std.proofs.Common.{◌≡◌, ℕ, ◌+◌, ◌<◌, ◌≤◌, nat_le, Bool, true, false, ◌⊎◌, List, ◌∷◌, length, Some, None, Option, MatchOption, Ok, Err, sym, refl, ap, ◌∙◌, subst, arith, length-append}
+use Rattle.std.specs.Bool.{then_some}
+use Rattle.std.proofs.lemmas.Bool.{leb-true, leb-false}
 use Rattle.medium.specs.Cells.{Cell}
 use Rattle.code.specs.Codes.{Laws}
 use Rattle.text.specs.Stands.{Stands, bytes_of}
 use Rattle.text.proofs.Standing as standing
 use Rattle.packet.specs.Texts.{Header, Trailer}
 use Rattle.packet.specs.Parts.{Ends}
-use Rattle.packet.specs.Finds.{FirstHeader, FirstTrailer, NoPacket, NoTrailerBy, Passed, begun, mode_of, more}
+use Rattle.packet.specs.Finds.{FirstHeader, FirstTrailer, NoPacket, NoTrailerBy, Passed, TrailerAt, TrailerBy, begun, mode_of, more}
+use Rattle.packet.specs.declared.trailer.Ending.{Ending}
 use Rattle.packet.specs.declared.failure.PacketFault.{PacketFault}
 use Rattle.packet.specs.declared.failure.PacketFault.TheVariants.{Unreadable, NoHeader, NoTrailer}
 
@@ -20,6 +23,15 @@ module _ (enc : ℕ → List ℕ) (unit : ℕ) (laws : Laws enc unit) (cs : List
       let same : x.0 ≡ t = standing.same_text enc unit laws cs k x.0 t (long _ x.0 x.1 ∙ sym (long _ t tr)) x.2 st in
       let m = x.3 ∙ ap (λ u. k + length (bytes_of enc u)) same in
       omega arith
+
+  -- the trailer at k, taken if it ends by the limit
+  pub trailer-by : (k limit : ℕ) (a r : Option Ending) → TrailerAt enc cs k a → MatchOption a (r ≡ None) (λ x. r ≡ then_some (nat_le x.end limit) x) → TrailerBy enc cs limit k r
+  trailer-by k limit None r n e = rw e (λ w t tr st l. n w t tr st)
+  trailer-by k limit (Some x) r t e = rw e (by (nat_le x.end limit) refl)
+    where
+      by : (b : Bool) → nat_le x.end limit ≡ b → TrailerBy enc cs limit k (then_some b x)
+      by true q = (t, leb-true x.end limit q)
+      by false q = let h = leb-false x.end limit q in too_far limit k x.end x.writable t (omega arith)
 
   -- a trailer takes at least one cell
   pub first : (mode : ℕ) (t : List ℕ) → Trailer mode t → (u : List ℕ) × (t ≡ 60 ∷ u)
@@ -61,6 +73,10 @@ module _ (enc : ℕ → List ℕ) (unit : ℕ) (laws : Laws enc unit) (cs : List
       let r = standing.reach cs k (bytes_of enc x.0) (omega arith) x.2.1 in
       (omega arith, omega arith)
 
+  -- the header that was looked for first, by its place
+  pub the_first : (u place start : ℕ) (r : Option (ℕ × ℕ)) → FirstHeader enc cs u r → r ≡ Some (place, start) → FirstHeader enc cs u (Some (place, start))
+  the_first u place start r h e = subst (FirstHeader enc cs u) e h
+
   -- a header with no trailer behind it is no packet
   pub refused : (u place start : ℕ) (f : PacketFault) → FirstHeader enc cs u (Some (place, start)) → FirstTrailer enc cs place start (Err f) → NoPacket enc cs u f
   refused u place start (Unreadable f) h t = (place, start, h, t)
@@ -68,7 +84,7 @@ module _ (enc : ℕ → List ℕ) (unit : ℕ) (laws : Laws enc unit) (cs : List
   refused u place start (NoTrailer p) h t = (place, start, h, t)
 
   -- and with one it lies within the medium
-  pub spans : (u place start : ℕ) (w : Bool) (e : ℕ) → FirstHeader enc cs u (Some (place, start)) → FirstTrailer enc cs place start (Ok (w, e)) → (place ≤ e) × (e ≤ length cs)
+  pub spans : (u place start : ℕ) (w : Bool) (e : ℕ) → FirstHeader enc cs u (Some (place, start)) → FirstTrailer enc cs place start (Ok (record { writable = w; end = e })) → (place ≤ e) × (e ≤ length cs)
   spans u place start w e h t =
       let a = header-inside u place start h.0 in
       let b = passed_on start (place + 16384) t.0 t.1 in

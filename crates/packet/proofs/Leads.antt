@@ -1,8 +1,7 @@
 -- The byte that every header begins with.
-use Rattle.std.proofs.Common.{◌≡◌, ℕ, ◌<◌, ◌≤◌, ◌≢◌, List, length, get_or, take, drop, None, codes, sym, ap, ◌∙◌, ⊎_elim, arith}
+use Rattle.std.proofs.Common.{◌≡◌, ℕ, ◌≤◌, ◌≢◌, List, length, get_or, drop, None, codes, sym, ap, ◌∙◌, arith}
 use native.Mathlib.Numerals.{unary_clauses}
 use Rattle.std.proofs.lemmas.List.{get_or-drop, get_or-map, get_or_past, get_or-take}
-use Rattle.std.proofs.lemmas.Bool.{cases_lt}
 use Rattle.medium.specs.Access.{Refuses}
 use Rattle.medium.specs.Cells.{Cell, byte, lost}
 use Rattle.medium.specs.declared.failure.MediumFault.{MediumFault}
@@ -21,10 +20,6 @@ cell_at cs k bs h e =
     let d : get_or (drop k cs) 0 lost ≡ get_or cs k lost = simp unary_clauses at (get_or-drop k cs 0 lost) in
     sym d ∙ sym (get_or-take (length bs) (drop k cs) 0 lost h) ∙ ap (λ l. get_or l 0 lost) e ∙ get_or-map byte bs 0 0 lost h
 
--- the first of the bytes with which a list begins
-pub first_of : (n : ℕ) (xs bs : List ℕ) → take n xs ≡ bs → 1 ≤ n → get_or xs 0 0 ≡ get_or bs 0 0
-first_of n xs bs e h = sym (get_or-take n xs 0 0 h) ∙ ap (λ l. get_or l 0 0) e
-
 lost_no_byte : (c : Cell) (b : ℕ) → c ≡ lost → c ≢ byte b
 lost_no_byte c b p q = let z : ◌≡◌ {A = ℕ} 0 1 = cc in omega arith
 
@@ -38,12 +33,7 @@ module _ (enc : ℕ → List ℕ) (unit : ℕ) (laws : Laws enc unit) (cs : List
   pub elsewhere : (k : ℕ) → get_or cs k lost ≢ byte (get_or (enc 60) 0 0) → Ends enc cs (Header unit) k None
   elsewhere k n =
       let less : Scalar 60 = (omega arith, λ h. omega arith) in
-      parse.renamed enc unit laws cs (Heading unit) (Header unit) k None (header-from unit) (header-to unit)
-      (parse.without enc unit laws cs (codes "<?xpacket begin=") (Quoting (Marked unit)) k
+      let read = parse.reading enc unit laws cs in
+      parse.renamed read (Heading unit) (Header unit) k None (header-from unit) (header-to unit)
+      (parse.without read (codes "<?xpacket begin=") (Quoting (Marked unit)) k
       (λ st. n (cell_at cs k (enc 60) (laws.some 60 less) (stands_head enc unit laws cs k 60 (codes "?xpacket begin=") st))))
-
-  -- where there is none at the places of the cells, there is none at all
-  pub nowhere : ((j : ℕ) → j < length cs → Ends enc cs (Header unit) j None) → (j : ℕ) → Ends enc cs (Header unit) j None
-  nowhere none j =
-      ⊎_elim (λ h. none j h) (λ h. elsewhere j (lost_no_byte (get_or cs j lost) (get_or (enc 60) 0 0) (get_or_past cs j lost (omega arith))))
-      (cases_lt j (length cs))

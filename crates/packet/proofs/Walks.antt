@@ -11,6 +11,7 @@ use Rattle.text.proofs.Standing as standing
 use Rattle.packet.specs.Texts.{Trailer}
 use Rattle.packet.specs.Parts.{Ends}
 use Rattle.packet.specs.Finds.{FirstTrailer, NoTrailerBy, OneOn, Over, Passed, begun, mode_of, more}
+use Rattle.packet.specs.declared.trailer.Ending.{Ending}
 use Rattle.packet.specs.declared.failure.PacketFault.{PacketFault}
 use Rattle.packet.specs.declared.failure.PacketFault.TheVariants.{Unreadable, NoHeader, NoTrailer}
 use Rattle.packet.proofs.Bodies as body
@@ -105,17 +106,17 @@ module _ (enc : ℕ → List ℕ) (unit : ℕ) (laws : Laws enc unit) (cs : List
   over_or_read limit q f x h l c = ⊎_elim (λ a. omega arith) (λ y. ⊎_elim (λ a. omega arith) (λ v. none_here q f c v.0 v.1 v.2) y) x
 
   -- no two answers of different kinds
-  found_unread : (place start : ℕ) (x : Bool × ℕ) (f : CodeFault) → FirstTrailer enc cs place start (Ok x) → FirstTrailer enc cs place start (Err (Unreadable f)) → ⊥
+  found_unread : (place start : ℕ) (x : Ending) (f : CodeFault) → FirstTrailer enc cs place start (Ok x) → FirstTrailer enc cs place start (Err (Unreadable f)) → ⊥
   found_unread place start x f a b =
       let lim = place + 16384 in
-      let q : a.0 ≡ b.0 = meet start lim a.0 b.0 a.1 b.1 (stop_trailer lim a.0 x.1 x.0 a.2 a.3) (stop_unread lim b.0 f b.5) in
-      subst (NoTrailerBy enc cs lim) (sym q) b.2 x.0 a.2.0 a.2.1 a.2.2 (let l = a.2.3 in let h = a.3 in omega arith)
+      let q : a.0 ≡ b.0 = meet start lim a.0 b.0 a.1 b.1 (stop_trailer lim a.0 x.end x.writable a.2 a.3) (stop_unread lim b.0 f b.5) in
+      subst (NoTrailerBy enc cs lim) (sym q) b.2 x.writable a.2.0 a.2.1 a.2.2 (let l = a.2.3 in let h = a.3 in omega arith)
 
-  found_over : (place start : ℕ) (x : Bool × ℕ) (p : ℕ) → FirstTrailer enc cs place start (Ok x) → FirstTrailer enc cs place start (Err (NoTrailer p)) → ⊥
+  found_over : (place start : ℕ) (x : Ending) (p : ℕ) → FirstTrailer enc cs place start (Ok x) → FirstTrailer enc cs place start (Err (NoTrailer p)) → ⊥
   found_over place start x p a b =
       let lim = place + 16384 in
-      let q : a.0 ≡ b.1 = meet start lim a.0 b.1 a.1 b.2 (stop_trailer lim a.0 x.1 x.0 a.2 a.3) (stop_over lim b.1 b.4) in
-      subst (NoTrailerBy enc cs lim) (sym q) b.3 x.0 a.2.0 a.2.1 a.2.2 (let l = a.2.3 in let h = a.3 in omega arith)
+      let q : a.0 ≡ b.1 = meet start lim a.0 b.1 a.1 b.2 (stop_trailer lim a.0 x.end x.writable a.2 a.3) (stop_over lim b.1 b.4) in
+      subst (NoTrailerBy enc cs lim) (sym q) b.3 x.writable a.2.0 a.2.1 a.2.2 (let l = a.2.3 in let h = a.3 in omega arith)
 
   unread_over : (place start : ℕ) (f : CodeFault) (p : ℕ) → FirstTrailer enc cs place start (Err (Unreadable f)) → FirstTrailer enc cs place start (Err (NoTrailer p)) → ⊥
   unread_over place start f p a b =
@@ -124,12 +125,12 @@ module _ (enc : ℕ → List ℕ) (unit : ℕ) (laws : Laws enc unit) (cs : List
       over_or_read lim a.0 f (subst (Over enc cs lim) (sym q) b.4) a.3 a.4 a.5
 
   -- so there is one answer
-  pub trailer-once : (place start : ℕ) (r s : Result (Bool × ℕ) PacketFault) → FirstTrailer enc cs place start r → FirstTrailer enc cs place start s → r ≡ s
+  pub trailer-once : (place start : ℕ) (r s : Result Ending PacketFault) → FirstTrailer enc cs place start r → FirstTrailer enc cs place start s → r ≡ s
   trailer-once place start (Ok x) (Ok y) a b =
       let lim = place + 16384 in
-      let q : a.0 ≡ b.0 = meet start lim a.0 b.0 a.1 b.1 (stop_trailer lim a.0 x.1 x.0 a.2 a.3) (stop_trailer lim b.0 y.1 y.0 b.2 b.3) in
-      let t = trailers b.0 x.1 y.1 x.0 y.0 (subst (λ n. Ends enc cs (Trailer (mode_of x.0)) n (Some x.1)) q a.2) b.2 in
-      ap₂ (λ m n. Ok (m, n)) t.0 t.1
+      let q : a.0 ≡ b.0 = meet start lim a.0 b.0 a.1 b.1 (stop_trailer lim a.0 x.end x.writable a.2 a.3) (stop_trailer lim b.0 y.end y.writable b.2 b.3) in
+      let t = trailers b.0 x.end y.end x.writable y.writable (subst (λ n. Ends enc cs (Trailer (mode_of x.writable)) n (Some x.end)) q a.2) b.2 in
+      ap₂ (λ m n. Ok (record { writable = m; end = n })) t.0 t.1
   trailer-once place start (Ok x) (Err (Unreadable f)) a b = absurd (found_unread place start x f a b)
   trailer-once place start (Ok x) (Err (NoHeader p)) a b = absurd b
   trailer-once place start (Ok x) (Err (NoTrailer p)) a b = absurd (found_over place start x p a b)

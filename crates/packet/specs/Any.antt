@@ -1,5 +1,5 @@
 -- What finding a packet in any code answers.
-use Rattle.std.specs.Prelude.{◌≡◌, ℕ, ◌<◌, ◌⊎◌, List, length, Some, None, Err}
+use Rattle.std.specs.Prelude.{◌≡◌, ℕ, ◌<◌, ◌≤◌, List, Some, None, Err, Option}
 use Rattle.medium.specs.Cells.{Cell}
 use Rattle.code.specs.Utf8.{enc8}
 use Rattle.code.specs.Utf16.{big_pair, enc16, little_pair}
@@ -27,11 +27,12 @@ unit_of utf8 = 1
 unit_of utf16be = 2
 unit_of utf16le = 2
 
--- the lowest place of a header in a code, or the number of cells where none stands
-abbrev pub LowestAt : (ℕ → List ℕ) → List Cell → ℕ → ℕ → Type 0
-LowestAt enc cs unit p =
-    ((j : ℕ) → j < p → Ends enc cs (Header unit) j None)
-    × (((e : ℕ) × Ends enc cs (Header unit) p (Some e)) ⊎ ((p ≡ length cs) × FirstHeader enc cs unit None))
+-- the header at a is not above the one at b, where one that is not there is above all
+abbrev pub NotAbove : Option (ℕ × ℕ) → Option (ℕ × ℕ) → Type 0
+NotAbove (Some x) (Some y) = x.0 ≤ y.0
+NotAbove (Some x) None = Unit {0}
+NotAbove None (Some y) = ⊥
+NotAbove None None = Unit {0}
 
 -- no header stands below the place, in any code
 abbrev pub NoneBelow : List Cell → ℕ → Type 0

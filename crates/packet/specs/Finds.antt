@@ -7,8 +7,7 @@ use Rattle.packet.specs.Texts.{Header, Trailer}
 use Rattle.packet.specs.Parts.{Ends}
 use Rattle.packet.specs.declared.failure.PacketFault.{PacketFault}
 use Rattle.packet.specs.declared.failure.PacketFault.TheVariants.{Unreadable, NoHeader, NoTrailer}
-use Rattle.packet.specs.declared.body.Part.{Part}
-use Rattle.packet.specs.declared.body.Part.TheVariants.{Closed, Text}
+use Rattle.packet.specs.declared.trailer.Ending.{Ending}
 
 -- the letter of a trailer: may the packet be written?
 abbrev pub mode_of : Bool → ℕ
@@ -27,8 +26,8 @@ module _ (enc : ℕ → List ℕ) (cs : List Cell) where
   FirstHeader unit None = (j : ℕ) → Ends enc cs (Header unit) j None
 
   -- the trailer at k: whether the packet may be written, and the place behind it
-  abbrev pub TrailerAt : ℕ → Option (Bool × ℕ) → Type 0
-  TrailerAt k (Some x) = Ends enc cs (Trailer (mode_of x.0)) k (Some x.1)
+  abbrev pub TrailerAt : ℕ → Option Ending → Type 0
+  TrailerAt k (Some x) = Ends enc cs (Trailer (mode_of x.writable)) k (Some x.end)
   TrailerAt k None = (w : Bool) → Ends enc cs (Trailer (mode_of w)) k None
 
   -- no trailer that ends by the limit stands at k
@@ -36,8 +35,8 @@ module _ (enc : ℕ → List ℕ) (cs : List Cell) where
   NoTrailerBy limit k = (w : Bool) (t : List ℕ) → Trailer (mode_of w) t → Stands enc cs k t → k + length (bytes_of enc t) ≤ limit → ⊥
 
   -- the trailer at k, if it ends by the limit
-  abbrev pub TrailerBy : ℕ → ℕ → Option (Bool × ℕ) → Type 0
-  TrailerBy limit k (Some x) = Ends enc cs (Trailer (mode_of x.0)) k (Some x.1) × (x.1 ≤ limit)
+  abbrev pub TrailerBy : ℕ → ℕ → Option Ending → Type 0
+  TrailerBy limit k (Some x) = Ends enc cs (Trailer (mode_of x.writable)) k (Some x.end) × (x.end ≤ limit)
   TrailerBy limit k None = NoTrailerBy limit k
 
   -- one character on from k, by the limit
@@ -53,19 +52,18 @@ module _ (enc : ℕ → List ℕ) (cs : List Cell) where
   abbrev pub Over : ℕ → ℕ → Type 0
   Over limit q = (length cs ≤ q) ⊎ ((limit ≤ q) ⊎ ((v : ℕ) × Scalar v × Holds cs q (enc v) × (limit < q + length (enc v))))
 
-  -- what stands at q in a packet whose header stands at place: its trailer, a character, or what ends the reading
-  abbrev pub PartAt : ℕ → ℕ → ℕ → Result Part PacketFault → Type 0
-  PartAt place limit q (Ok (Closed w e)) = Ends enc cs (Trailer (mode_of w)) q (Some e) × (e ≤ limit)
-  PartAt place limit q (Ok (Text e)) = NoTrailerBy limit q × OneOn limit q e
-  PartAt place limit q (Err (Unreadable f)) = NoTrailerBy limit q × CharAt enc cs q (Err f)
-  PartAt place limit q (Err (NoHeader p)) = ⊥
-  PartAt place limit q (Err (NoTrailer p)) =
-      (p ≡ place) × NoTrailerBy limit q × ((v : ℕ) × Scalar v × Holds cs q (enc v) × (limit < q + length (enc v)))
+  -- the place behind the character at q, in a packet whose header stands at place, or what ends the reading there
+  abbrev pub CharacterBy : ℕ → ℕ → ℕ → Result ℕ PacketFault → Type 0
+  CharacterBy place limit q (Ok e) = OneOn limit q e
+  CharacterBy place limit q (Err (Unreadable f)) = CharAt enc cs q (Err f)
+  CharacterBy place limit q (Err (NoHeader p)) = ⊥
+  CharacterBy place limit q (Err (NoTrailer p)) =
+      (p ≡ place) × ((v : ℕ) × Scalar v × Holds cs q (enc v) × (limit < q + length (enc v)))
 
   -- the first trailer behind start, of a packet whose header stands at place
-  abbrev pub FirstTrailer : ℕ → ℕ → Result (Bool × ℕ) PacketFault → Type 0
+  abbrev pub FirstTrailer : ℕ → ℕ → Result Ending PacketFault → Type 0
   FirstTrailer place start (Ok x) =
-      (q : ℕ) × Passed start (place + 16384) q × Ends enc cs (Trailer (mode_of x.0)) q (Some x.1) × (x.1 ≤ place + 16384)
+      (q : ℕ) × Passed start (place + 16384) q × Ends enc cs (Trailer (mode_of x.writable)) q (Some x.end) × (x.end ≤ place + 16384)
   FirstTrailer place start (Err (Unreadable f)) =
       (q : ℕ) × Passed start (place + 16384) q × NoTrailerBy (place + 16384) q × (q < length cs) × (q < place + 16384) × CharAt enc cs q (Err f)
   FirstTrailer place start (Err (NoHeader p)) = ⊥
@@ -75,7 +73,7 @@ module _ (enc : ℕ → List ℕ) (cs : List Cell) where
   -- the packet that is found: the lowest header, and the first trailer behind it
   abbrev pub PacketAt : ℕ → ℕ → ℕ → Bool → Type 0
   PacketAt unit place len w =
-      (start : ℕ) × FirstHeader unit (Some (place, start)) × FirstTrailer place start (Ok (w, place + len)) × (len ≤ 16384)
+      (start : ℕ) × FirstHeader unit (Some (place, start)) × FirstTrailer place start (Ok (record { writable = w; end = place + len })) × (len ≤ 16384)
 
   -- why none is found
   abbrev pub NoPacket : ℕ → PacketFault → Type 0

@@ -2,7 +2,7 @@
 use Rattle.std.specs.Prelude.{◌≡◌, ℕ, ◌+◌, ◌-◌, ◌≤◌, Bool, true, false, ◌≢◌, ◌⊎◌, List, [], ◌∷◌, ◌++◌, length, Some, None, codes, Option, ◌==◌}
 use Rattle.medium.specs.Cells.{Cell}
 use Rattle.code.specs.Codes.{Scalar}
-use Rattle.text.specs.Stands.{Holds, Stands, bytes_of}
+use Rattle.text.specs.Stands.{Expected, Holds, Stands, bytes_of}
 use Rattle.packet.specs.Texts.{Quote, packet_id}
 
 -- the word w, and behind it a text that P is true of
@@ -50,3 +50,8 @@ module _ (enc : ℕ → List ℕ) (cs : List Cell) where
   abbrev pub QuoteAt : ℕ → Option (ℕ × ℕ) → Type 0
   QuoteAt k (Some c) = Quote c.0 × Scalar c.0 × Holds cs k (enc c.0) × (c.1 ≡ k + length (enc c.0))
   QuoteAt k None = (q : ℕ) → Quote q → Holds cs k (enc q) → ⊥
+
+  -- the place behind the mark at k: U+FEFF, or nothing where none stands and the unit is one byte
+  abbrev pub MarkAt : ℕ → ℕ → Option ℕ → Type 0
+  MarkAt unit k (Some e) = Expected enc cs k 65279 (Some e) ⊎ (Expected enc cs k 65279 None × (unit ≡ 1) × (e ≡ k))
+  MarkAt unit k None = Expected enc cs k 65279 None × (unit ≢ 1)

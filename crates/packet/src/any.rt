@@ -1,14 +1,16 @@
 // Finding a packet in whichever of the codes it is written.
-ghost use Rattle.std.specs.Prelude.{◌≡◌, MatchResult};
-ghost use Rattle.packet.specs.Any.{FoundAny, LowestAt, NoneInAny};
+ghost use Rattle.std.specs.Prelude.{◌↔◌, IsTrue, MatchResult};
+ghost use Rattle.packet.specs.Any.{FoundAny, NoneInAny, NotAbove};
 
 use crate::PacketFault;
 use crate::finding::{Found, find};
 use crate::first::first_header;
-use code::{TextCode, Utf8, Utf16Be, Utf16Le};
+use code::{Utf8, Utf16Be, Utf16Le};
 use medium::Medium;
+use text::Text;
 
-// A packet that was found, by the code that it is written in.
+// A packet that was found, by the code that it is written in. A variant for each code, and not one struct with a tag, since the
+// code of a packet is its type: whatever is done with it is then proved once, for every code.
 #[derive(Drop)]
 pub enum AnyFound {
     InUtf8(Found<Utf8>),
@@ -20,27 +22,28 @@ pub enum AnyFound {
 pub fn find_any<M: Medium>(m: &M) -> Result<AnyFound, PacketFault>
     ensures { MatchResult result (FoundAny (M.Medium.cells m.now)) (NoneInAny (M.Medium.cells m.now)) }
 {
-    let utf8 = lowest_header::<Utf8, M>(m);
-    let big = lowest_header::<Utf16Be, M>(m);
-    let little = lowest_header::<Utf16Le, M>(m);
-    if utf8 <= big && utf8 <= little {
-        let found = find::<Utf8, M>(m)?;
-        return Ok(AnyFound::InUtf8(found));
+    let in_utf8 = Text::<Utf8, M>::new(m);
+    let in_big = Text::<Utf16Be, M>::new(m);
+    let in_little = Text::<Utf16Le, M>::new(m);
+    let utf8 = first_header(&in_utf8);
+    let big = first_header(&in_big);
+    let little = first_header(&in_little);
+    if comes_first(utf8, big) && comes_first(utf8, little) {
+        find(&in_utf8).map(AnyFound::InUtf8)
+    } else if comes_first(big, little) {
+        find(&in_big).map(AnyFound::InUtf16Be)
+    } else {
+        find(&in_little).map(AnyFound::InUtf16Le)
     }
-    if big <= little {
-        let found = find::<Utf16Be, M>(m)?;
-        return Ok(AnyFound::InUtf16Be(found));
-    }
-    let found = find::<Utf16Le, M>(m)?;
-    Ok(AnyFound::InUtf16Le(found))
 }
 
-// The place of the lowest header in a code, or the medium's size where there is none.
-fn lowest_header<C: TextCode, M: Medium>(m: &M) -> usize
-    ensures { LowestAt C.TextCode.enc (M.Medium.cells m.now) C.TextCode.unit result }
+// Whether the header at `a` is not above the one at `b`. One that is not there counts as above all.
+fn comes_first(a: Option<(usize, usize)>, b: Option<(usize, usize)>) -> bool
+    ensures { IsTrue result ↔ NotAbove a b }
 {
-    match first_header::<C, M>(m) {
-        Some((place, _)) => place,
-        None => m.size(),
+    match (a, b) {
+        (Some((a, _)), Some((b, _))) => a <= b,
+        (_, None) => true,
+        (None, Some(_)) => false,
     }
 }

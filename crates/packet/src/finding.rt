@@ -6,9 +6,11 @@ use crate::PacketFault;
 use crate::body::first_trailer;
 use crate::extent::Extent;
 use crate::first::first_header;
+use crate::trailer::Ending;
 use code::TextCode;
 use medium::Medium;
 use std::marker::PhantomData;
+use text::Text;
 
 // A packet that was found in the code `C`, and that nothing has been done with yet. It can be neither read nor written as it is.
 #[derive(Drop)]
@@ -34,14 +36,12 @@ impl<C: TextCode> Found<C> {
     }
 }
 
-// The packet with the lowest header in the medium.
-pub fn find<C: TextCode, M: Medium>(m: &M) -> Result<Found<C>, PacketFault>
-    ensures { MatchResult result (λ f. PacketAt C.TextCode.enc (M.Medium.cells m.now) C.TextCode.unit f.extent.place f.extent.len f.writable) (NoPacket C.TextCode.enc (M.Medium.cells m.now) C.TextCode.unit) }
+// The packet with the lowest header.
+pub fn find<C: TextCode, M: Medium>(text: &Text<C, M>) -> Result<Found<C>, PacketFault>
+    ensures { MatchResult result (λ f. PacketAt C.TextCode.enc text.now C.TextCode.unit f.extent.place f.extent.len f.writable) (NoPacket C.TextCode.enc text.now C.TextCode.unit) }
 {
-    let Some((place, start)) = first_header::<C, M>(m) else {
-        return Err(PacketFault::NoHeader { place: 0 });
-    };
-    let (writable, end) = first_trailer::<C, M>(m, place, start)?;
+    let (place, start) = first_header(text).ok_or(PacketFault::NoHeader { place: 0 })?;
+    let Ending { writable, end } = first_trailer(text, place, start)?;
     let extent = Extent {
         place,
         len: end - place,

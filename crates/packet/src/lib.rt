@@ -21,4 +21,4 @@ pub use failure::PacketFault;
 pub use finding::{Found, find, find_has_one_answer};
 pub use first::first_header;
 pub use header::header_at;
-pub use trailer::trailer_at;
+pub use trailer::{Ending, trailer_at};

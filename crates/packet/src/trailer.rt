@@ -1,33 +1,58 @@
 // The trailer of a packet.
-ghost use Rattle.std.specs.Prelude.{◌≡◌, ◌⊎◌};
-ghost use Rattle.packet.specs.Finds.{TrailerAt};
+ghost use Rattle.std.specs.Prelude.{◌≡◌};
+ghost use Rattle.packet.specs.Finds.{TrailerAt, mode_of};
 ghost use Rattle.packet.specs.Parts.{Ends};
 ghost use Rattle.packet.specs.Texts.{Trailer};
 
 use crate::header::quote_at;
 use code::TextCode;
 use medium::Medium;
-use text::{expect, word_at};
+use text::Text;
 
-// Whether the trailer that stands at `at` lets the packet be written, and the place behind it.
-pub fn trailer_at<C: TextCode, M: Medium>(m: &M, at: usize) -> Option<(bool, usize)>
-    ensures { TrailerAt C.TextCode.enc (M.Medium.cells m.now) at result }
-{
-    if let Some(end) = trailer_with::<C, M>(m, at, 'w') {
-        return Some((true, end));
-    }
-    let end = trailer_with::<C, M>(m, at, 'r')?;
-    Some((false, end))
+// What a trailer tells of its packet.
+#[derive(Clone, Copy, PartialEq, Eq, Debug)]
+pub struct Ending {
+    // Whether the packet may be written.
+    pub writable: bool,
+    // The place behind it.
+    pub end: usize,
 }
 
-// The place behind the trailer with that letter.
-fn trailer_with<C: TextCode, M: Medium>(m: &M, at: usize, mode: char) -> Option<usize>
-    requires { (mode ≡ 119) ⊎ (mode ≡ 114) }
-    ensures { Ends C.TextCode.enc (M.Medium.cells m.now) (Trailer mode) at result }
+// The trailer that stands at `at`, if one does.
+pub fn trailer_at<C: TextCode, M: Medium>(text: &Text<C, M>, at: usize) -> Option<Ending>
+    ensures { TrailerAt C.TextCode.enc text.now at result }
 {
-    let begin = word_at::<C, M>(m, at, b"<?xpacket end=")?;
-    let (quote, inside) = quote_at::<C, M>(m, begin)?;
-    let behind = expect::<C, M>(m, inside, mode)?;
-    let closed = expect::<C, M>(m, behind, quote)?;
-    word_at::<C, M>(m, closed, b"?>")
+    if let Some(end) = trailer_with(text, at, true) {
+        return Some(Ending {
+            writable: true,
+            end,
+        });
+    }
+    let end = trailer_with(text, at, false)?;
+    Some(Ending {
+        writable: false,
+        end,
+    })
+}
+
+// The letter of a trailer.
+fn letter(writable: bool) -> char
+    ensures { result ≡ mode_of writable }
+{
+    if writable { 'w' } else { 'r' }
+}
+
+// The place behind the trailer that lets the packet be written, or does not.
+fn trailer_with<C: TextCode, M: Medium>(
+    text: &Text<C, M>,
+    at: usize,
+    writable: bool,
+) -> Option<usize>
+    ensures { Ends C.TextCode.enc text.now (Trailer (mode_of writable)) at result }
+{
+    let begin = text.word_at(at, b"<?xpacket end=")?;
+    let (quote, inside) = quote_at(text, begin)?;
+    let behind = text.expect(inside, letter(writable))?;
+    let closed = text.expect(behind, quote)?;
+    text.word_at(closed, b"?>")
 }

@@ -3,20 +3,15 @@ use location::locate_text;
 use medium::{Medium, MediumFault};
 use packet::{PacketFault, find};
 use std::test::Fail;
+use text::Text;
 use volume::Volume;
 
-// What is said of a file that holds the three texts in a row.
-fn said(
-    rt: &HostRuntime,
-    before: &[u8],
-    header: &[u8],
-    behind: &[u8],
-    expected: &str,
-) -> Result<(), Fail> {
+// What is said of a file that holds the texts in a row.
+fn said(rt: &HostRuntime, texts: &[&[u8]], expected: &str) -> Result<(), Fail> {
     let mut bytes = Vec::new(rt.alloc());
-    bytes.extend_from_slice(before)?;
-    bytes.extend_from_slice(header)?;
-    bytes.extend_from_slice(behind)?;
+    for text in texts {
+        bytes.extend_from_slice(text)?;
+    }
     let text = locate_text(rt.alloc(), bytes.as_mut_slice())?;
     if text.as_str() != expected {
         return Err(Fail::new("another text was said"));
@@ -28,13 +23,17 @@ const HEADER: &[u8] = b"<?xpacket begin='' id=\"W5M0MpCehiHzreSzNTczkc9d\"?>";
 
 #[test]
 fn nothing_in_an_empty_file(rt: HostRuntime) -> Result<(), Fail> {
-    said(&rt, b"", b"", b"", "packet 3 0\n")
+    said(&rt, &[], "packet 3 0\n")
 }
 
 #[test]
 fn a_packet_to_be_written(rt: HostRuntime) -> Result<(), Fail> {
     let expected = "code: UTF-8\nplace: 2\nlength: 73\nwritable: yes\n";
-    said(&rt, b"..", HEADER, b"text<?xpacket end='w'?>..", expected)
+    said(
+        &rt,
+        &[b"..", HEADER, b"text<?xpacket end='w'?>.."],
+        expected,
+    )
 }
 
 #[test]
@@ -42,25 +41,25 @@ fn the_first_trailer_counts(rt: HostRuntime) -> Result<(), Fail> {
     let expected = "code: UTF-8\nplace: 0\nlength: 69\nwritable: no\n";
     said(
         &rt,
-        b"",
-        HEADER,
-        b"<?xpacket end=\"r\"?><?xpacket end='w'?>",
+        &[HEADER, b"<?xpacket end=\"r\"?><?xpacket end='w'?>"],
         expected,
     )
 }
 
 #[test]
 fn a_header_without_a_trailer(rt: HostRuntime) -> Result<(), Fail> {
-    said(&rt, b"...", HEADER, b"<?xpacket end='x'?>", "packet 4 3\n")
+    said(
+        &rt,
+        &[b"...", HEADER, b"<?xpacket end='x'?>"],
+        "packet 4 3\n",
+    )
 }
 
 #[test]
 fn no_character_before_the_trailer(rt: HostRuntime) -> Result<(), Fail> {
     said(
         &rt,
-        b"",
-        HEADER,
-        b"a\xc0\x80<?xpacket end='w'?>",
+        &[HEADER, b"a\xc0\x80<?xpacket end='w'?>"],
         "code 5 51\n",
     )
 }
@@ -70,15 +69,13 @@ fn a_lost_block_before_the_trailer(rt: HostRuntime) -> Result<(), Fail> {
     let mut bytes = [0u8; 1024];
     bytes[511] = 1;
     let mut reel = Volume::new(&mut bytes);
-    for (i, b) in HEADER.iter().enumerate() {
-        reel.put(i.saturating_add(458), *b)?;
+    for (place, b) in (458..).zip(HEADER) {
+        reel.put(place, *b)?;
     }
     let lost = CodeFault::Unread(MediumFault::Lost { place: 508 });
-    match find::<Utf8, Volume>(&reel) {
-        Ok(_) => Err(Fail::new("a packet was found")),
-        Err(fault) => {
-            assert_eq!(rt; fault, PacketFault::Unreadable(lost));
-            Ok(())
-        },
-    }
+    assert_eq!(rt;
+        find(&Text::<Utf8, Volume>::new(&reel)).err(),
+        Some(PacketFault::Unreadable(lost))
+    );
+    Ok(())
 }

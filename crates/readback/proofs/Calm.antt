@@ -5,7 +5,8 @@ use Rattle.std.proofs.ByRecursion.{All-append, All-weaker}
 use Rattle.std.proofs.lemmas.Bool.{both_ways}
 use Rattle.characters.specs.Classes.{is_white}
 use Rattle.characters.specs.Spelling.{spellings}
-use Rattle.characters.specs.Safe.{Quiet, spellings-quiet}
+use Rattle.characters.specs.Safe.{Quiet}
+use Rattle.characters.proofs.Safe.{spellings-quiet}
 use Rattle.characters.specs.declared.escapes.Where.{Where}
 use Rattle.characters.specs.declared.escapes.Where.TheVariants.{Content, Attribute as Quoted}
 use Rattle.names.specs.Order.{Text}

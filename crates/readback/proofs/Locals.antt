@@ -4,7 +4,7 @@ use Rattle.std.specs.List.{AllByRecursion}
 use Rattle.std.proofs.ByRecursion.{All-weaker}
 use Rattle.std.proofs.lemmas.Bool.{cond_both, ltb-true}
 use Rattle.characters.specs.Classes.{Ranges, In, local_first, name_first, name_more, is_local, is_name}
-use Rattle.characters.specs.Deciding.{in_append, local_decides, name-decides}
+use Rattle.characters.proofs.Deciding.{in_append, local_decides, name-decides}
 use Rattle.names.specs.Order.{Text, same}
 use Rattle.tree.specs.Names.{LocalName}
 use Rattle.items.specs.Tokens.{NcName}

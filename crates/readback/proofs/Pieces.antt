@@ -3,7 +3,7 @@ use Rattle.std.proofs.Common.{◌≡◌, ℕ, ◌+◌, true, eqb, ◌≢◌, Lis
 use Rattle.std.specs.List.{AllByRecursion}
 use Rattle.std.proofs.lemmas.Bool.{eqb-true, eqb-false, cond_both}
 use Rattle.characters.specs.Classes.{In, white_ranges, is_white}
-use Rattle.characters.specs.Deciding.{white_decides}
+use Rattle.characters.proofs.Deciding.{white_decides}
 use Rattle.characters.specs.Spelling.{spelling, spellings}
 use Rattle.characters.specs.declared.escapes.Where.{Where}
 use Rattle.characters.specs.declared.escapes.Where.TheVariants.{Content, Attribute as Quoted}

@@ -1,16 +1,12 @@
 -- The cells of a volume are as readable as its blocks are sound.
-use Rattle.std.proofs.Common.{◌≡◌, ℕ, zero, suc, ◌+◌, ◌*◌, ◌/◌, ◌%◌, ◌<◌, ◌≤◌, Bool, true, false, cond, List, [], ◌∷◌, ◌++◌, map, get_or, sym, refl, ap, ◌∙◌, ap₂, add-zero, zero-add, add-one, arith}
+use Rattle.std.proofs.Common.{◌≡◌, ℕ, zero, suc, ◌+◌, ◌*◌, ◌/◌, ◌%◌, ◌<◌, ◌≤◌, Bool, true, false, cond, List, [], ◌∷◌, ◌++◌, map, count_by, get_or, sym, refl, ap, ◌∙◌, ap₂, add-zero, zero-add, add-one, suc-add, arith}
 use Rattle.std.proofs.lemmas.List.{map-append}
+use Rattle.std.proofs.lemmas.List.Sums.{sum_by-append}
 use Rattle.std.specs.List.{range_with_len}
 use Rattle.std.proofs.lemmas.Bool.{lt-ltb}
 use Rattle.medium.specs.Cells.{Cell, byte, lost}
 use Rattle.volume.specs.Blocks.{blocks, cell_of, readable as blockReadable, sound_at, volume_cells}
 use Rattle.survey.specs.Tally.{readable, sound_among}
-
--- one block more, b being whether it can be read
-pub more : (bs : List ℕ) (k : ℕ) (b : Bool) → k < blocks bs → b ≡ blockReadable bs k → sound_among bs (k + 1) ≡ sound_among bs k + cond b 1 0
-more bs k b h e =
-    rw (add-one k) (ap (λ t. sound_among bs k + cond t 1 0) (sym (e ∙ ap (λ t. cond t (sound_at bs k) false) (lt-ltb k (blocks bs) h))))
 
 pub at_most : (bs : List ℕ) (n : ℕ) → sound_among bs n ≤ n
 at_most bs zero = omega arith
@@ -37,14 +33,28 @@ run bs k p (suc n) l h =
     first true x cs e = omega arith
     first false x cs e = e
 
-suc_add : (m n : ℕ) → suc m + n ≡ suc (m + n)
-suc_add m n = omega arith
-
 counting_append : (a m n : ℕ) → range_with_len a (m + n) ≡ range_with_len a m ++ range_with_len (a + m) n
 counting_append a zero n = rw (zero-add n) (rw (add-zero a) refl)
 counting_append a (suc m) n =
-    ap (range_with_len a) (suc_add m n)
+    ap (range_with_len a) (suc-add m n)
     ∙ ap (λ ns. a ∷ ns) (counting_append (a + 1) m n ∙ ap (λ j. range_with_len (a + 1) m ++ range_with_len j n) (omega arith))
+
+-- the blocks that can be read, counted one by one
+pub counted : (bs : List ℕ) → count_by (blockReadable bs) (range_with_len 0 (blocks bs)) ≡ sound_among bs (blocks bs)
+counted bs = below (blocks bs) (omega arith)
+  where
+    one : (k : ℕ) → k < blocks bs → blockReadable bs k ≡ sound_at bs k
+    one k h = ap (λ t. cond t (sound_at bs k) false) (lt-ltb k (blocks bs) h)
+
+    below : (n : ℕ) → n ≤ blocks bs → count_by (blockReadable bs) (range_with_len 0 n) ≡ sound_among bs n
+    below zero h = refl
+    below (suc n) h =
+        let r = ap (range_with_len 0) (sym (add-one n)) ∙ counting_append 0 n 1 ∙ ap (λ j. range_with_len 0 n ++ (j ∷ [])) (zero-add n) in
+        let f : ℕ → ℕ = λ k. cond (blockReadable bs k) 1 0 in
+        let a = sum_by-append f (range_with_len 0 n) (n ∷ []) in
+        let b = below n (omega arith) in
+        let o : ◌≡◌ {A = ℕ} (cond (blockReadable bs n) 1 0) (cond (sound_at bs n) 1 0) = ap (λ t. cond t 1 0) (one n h) in
+        ap (count_by (blockReadable bs)) r ∙ a ∙ omega arith
 
 readable-append : (cs ds : List Cell) → readable (cs ++ ds) ≡ readable cs + readable ds
 readable-append [] ds = sym (zero-add (readable ds))

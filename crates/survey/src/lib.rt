@@ -1,61 +1,61 @@
 // What is to be said of a reel volume: how many blocks are sound, which are lost, and what their checks should have been.
 #![tactic(auto)]
 
-ghost use Rattle.std.specs.Prelude.{◌≡◌, ◌*◌, ◌<◌, length, IfOk, string_bytes};
-ghost use Rattle.survey.specs.Text.{block_line, head_text, line_of, text_of_survey};
+ghost use Rattle.std.specs.Prelude.{◌≡◌, ◌*◌, ◌<◌, ◌++◌, count_by, IfOk, OnOk, string_bytes};
+ghost use Rattle.std.specs.List.{range_with_len};
+ghost use Rattle.survey.specs.Text.{block_line, head_text, text_of_survey};
 ghost use Rattle.survey.specs.Tally.{readable, sound_among};
-ghost use Rattle.volume.specs.Blocks.{blocks, volume_cells};
+ghost use Rattle.volume.specs.Blocks.{blocks, readable as block_readable, volume_cells};
 
 use std::alloc::{AllocError, Global};
-use volume::{Block, block_at, block_count, is_readable};
+use std::fmt::Write;
+use volume::{BLOCK_BYTES, Block, DATA_BYTES, block_at, block_count, is_readable};
 
 // How many of the blocks are sound, which also says how many of the volume's cells can be read.
 pub fn sound_count(bytes: &[u8]) -> usize
     ensures sound { result ≡ sound_among bytes.now (blocks bytes.now) }
     ensures cells { readable (volume_cells bytes.now) ≡ 508 * result }
 {
-    let mut sound = 0;
-    for k in 0..block_count(bytes) {
-        if is_readable(bytes, k) {
-            sound += 1;
-        }
-    }
-    sound
+    count_below(bytes, block_count(bytes))
+}
+
+// How many of the first `n` blocks count and are sound.
+fn count_below(bytes: &[u8], n: usize) -> usize
+    ensures { result ≡ count_by (block_readable bytes.now) (range_with_len 0 n) }
+{
+    (0..n).filter(|k| is_readable(bytes, *k)).count()
 }
 
 // The lines that every volume has.
+#[tactic(auto, using(crate::proofs::Counts::at_most))]
 fn head(heap: Global, bytes: &[u8]) -> Result<String, AllocError>
     ensures { IfOk result (λ s. string_bytes s ≡ head_text bytes.now) }
 {
     let blocks = block_count(bytes);
     let sound = sound_count(bytes);
     let lost = blocks - sound;
-    let cells = 508 * sound;
-    let outside = bytes.len() - 512 * blocks;
+    let cells = DATA_BYTES * sound;
+    let outside = bytes.len() - BLOCK_BYTES * blocks;
     format!(in heap;
         "blocks: {blocks}\nsound: {sound}\nlost: {lost}\nreadable cells: {cells}\nbytes in no block: {outside}\n"
     )
 }
 
-// The line of block `k` if it is lost, or nothing.
-fn block_line(heap: Global, bytes: &[u8], k: usize) -> Result<String, AllocError>
+// Adds the line of block `k` if it is lost.
+fn add_line(text: &mut String, bytes: &[u8], k: usize) -> Result<(), AllocError>
     requires { k < blocks bytes.now }
-    ensures { IfOk result (λ s. string_bytes s ≡ block_line bytes.now k) }
+    ensures { OnOk result (string_bytes text.new ≡ string_bytes text.old ++ block_line bytes.now k) }
 {
     match block_at(bytes, k) {
-        Some(block) => line_of(heap, k, block),
-        None => Ok(String::new(heap)),
+        Some(block) if !block.is_sound() => {
+            let Block { stored, due } = block;
+            writeln!(
+                text,
+                "block {k} is lost: its check is {stored} and should be {due}"
+            )
+        }
+        _ => Ok(()),
     }
-}
-
-fn line_of(heap: Global, k: usize, block: Block) -> Result<String, AllocError>
-    ensures { IfOk result (λ s. string_bytes s ≡ line_of k block.stored block.due) }
-{
-    if block.is_sound() {
-        return Ok(String::new(heap));
-    }
-    let Block { stored, due } = block;
-    format!(in heap; "block {k} is lost: its check is {stored} and should be {due}\n")
 }
 
 // The whole text. It is refused only for want of memory.
@@ -64,8 +64,7 @@ pub fn survey_text(heap: Global, bytes: &[u8]) -> Result<String, AllocError>
 {
     let mut text = head(heap, bytes)?;
     for k in 0..block_count(bytes) {
-        let line = block_line(heap, bytes, k)?;
-        text.push_str(line.as_str())?;
+        add_line(&mut text, bytes, k)?;
     }
     Ok(text)
 }

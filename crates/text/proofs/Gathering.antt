@@ -1,8 +1,8 @@
 -- The bytes from a place on, up to the fourth, a lost cell or the end: whether they begin with a character says whether one
 -- stands there.
-use Rattle.std.proofs.Common.{◌≡◌, ℕ, ◌+◌, ◌-◌, ◌<◌, ◌≤◌, min, ◌≢◌, List, [], ◌∷◌, ◌++◌, length, get_or, take, drop, set, Ok, Err, sym, ap, ◌∙◌, subst, ap₂, ⊎_elim, arith, length-drop, length-set, length-take}
+use Rattle.std.proofs.Common.{◌≡◌, ℕ, ◌+◌, ◌-◌, ◌<◌, ◌≤◌, min, ◌≢◌, List, [], ◌∷◌, ◌++◌, length, get_or, take, drop, Ok, Err, Result, MatchResult, sym, ap, ◌∙◌, subst, ap₂, ⊎_elim, arith, length-append, length-drop, length-take}
 use lib.ListN.{length-map}
-use Rattle.std.proofs.lemmas.List.{take-take, take-map, take_more, take_more_set, map_push, get_or-take, get_or-drop, get_or-map, length-take-le}
+use Rattle.std.proofs.lemmas.List.{take-take, take-map, take_more, map_push, get_or-take, get_or-drop, get_or-map}
 use Rattle.std.proofs.lemmas.Bool.{cases_lt}
 use Rattle.medium.proofs.Held.{byte_not_lost, held_same}
 use Rattle.medium.specs.Cells.{Cell, byte, held, lost}
@@ -14,16 +14,13 @@ use Rattle.text.specs.Stands.{Holds, Cut, NoChar, CharAt}
 use Rattle.text.specs.Gathers.{Ended}
 
 -- one more byte
-pub more : (cs : List Cell) (k : ℕ) (bs : List ℕ) (i b : ℕ) → i < length bs → Holds cs k (take i bs) → k + i < length cs → get_or cs (k + i) lost ≡ byte b → Holds cs k (take (i + 1) (set bs i b))
-more cs k bs i b h e l f =
-    let n : length (take (i + 1) (set bs i b)) ≡ i + 1 = simp (length-take, length-set) (omega arith) in
-    let m : length (take i bs) ≡ i = simp length-take (omega arith) in
-    let d : i < length (drop k cs) = simp length-drop (omega arith) in
+pub more : (cs : List Cell) (k : ℕ) (bs : List ℕ) (b : ℕ) → Holds cs k bs → k + length bs < length cs → get_or cs (k + length bs) lost ≡ byte b → Holds cs k (bs ++ b ∷ [])
+more cs k bs b e l f =
+    let n : length (bs ++ b ∷ []) ≡ length bs + 1 = simp length-append in
     ap (λ j. take j (drop k cs)) n
-    ∙ take_more (drop k cs) i lost d
-    ∙ ap₂ (λ xs x. xs ++ x ∷ []) (ap (λ j. take j (drop k cs)) (sym m) ∙ e) (get_or-drop k cs i lost ∙ f)
-    ∙ sym (map_push byte (take i bs) b)
-    ∙ ap held (sym (take_more_set bs i b h))
+    ∙ take_more (drop k cs) (length bs) lost (simp length-drop (omega arith))
+    ∙ ap₂ (λ xs x. xs ++ x ∷ []) e (get_or-drop k cs (length bs) lost ∙ f)
+    ∙ sym (map_push byte bs b)
 
 module _ (cs : List Cell) (k : ℕ) (bs : List ℕ) (hold : Holds cs k bs) where
   -- a cell that holds one of these bytes is not lost
@@ -97,12 +94,7 @@ module _ (cs : List Cell) (k : ℕ) (bs : List ℕ) (hold : Holds cs k bs) where
     refused_by (Unread e) f n r = absurd n
     refused_by (NoCharacter p) f n r = refused_for f r n.1
 
--- what decode says of the n bytes that were got, said of the cells
-module _ (enc : ℕ → List ℕ) (cs : List Cell) (k : ℕ) (bs : List ℕ) (n : ℕ) (hold : Holds cs k (take n bs)) where
-  pub found : (c : ℕ × ℕ) → Decoded enc (take n bs) (Ok c) → CharAt enc cs k (Ok c)
-  found c d = (d.0, front cs k (take n bs) hold (enc c.0) d.1, d.2)
-
-  pub refused : (unit : ℕ) (d f : CodeFault) → Laws enc unit → n ≤ length bs → Decoded enc (take n bs) (Err d) → Ended cs k n f → CharAt enc cs k (Err f)
-  refused unit d f laws h e r =
-      refused_by cs k (take n bs) hold enc unit laws d f e
-      (subst (λ j. Ended cs k j f) (sym (length-take-le n bs h)) r)
+-- what decode says of the bytes that were got, said of the cells: its character, or the fault that was kept for them
+pub answered : (enc : ℕ → List ℕ) (cs : List Cell) (k : ℕ) (bs : List ℕ) (unit : ℕ) (f : CodeFault) (d r : Result (ℕ × ℕ) CodeFault) → Laws enc unit → Holds cs k bs → Ended cs k (length bs) f → Decoded enc bs d → MatchResult d (λ c. r ≡ Ok c) (λ _. r ≡ Err f) → CharAt enc cs k r
+answered enc cs k bs unit f (Ok c) r laws hold end dec e = rw e (dec.0, front cs k bs hold (enc c.0) dec.1, dec.2)
+answered enc cs k bs unit f (Err d) r laws hold end dec e = rw e (refused_by cs k bs hold enc unit laws d f dec end)

@@ -1,12 +1,13 @@
 -- Texts that stand one behind the other, and that no two characters stand at one place.
-use Rattle.std.proofs.Common.{◌≡◌, ℕ, ◌+◌, ◌-◌, ◌<◌, ◌≤◌, min, List, [], ◌∷◌, ◌++◌, length, get_or, take, drop, sym, refl, ap, ◌∙◌, subst, ap₂, ⊎_elim, arith, length-append, length-drop, length-take}
+use Rattle.std.proofs.Common.{◌≡◌, ℕ, ◌+◌, ◌-◌, ◌<◌, ◌≤◌, min, ◌==◌, Bool, true, false, Option, Some, List, [], ◌∷◌, ◌++◌, length, get_or, take, drop, sym, refl, ap, ◌∙◌, subst, ap₂, ⊎_elim, arith, length-append, length-drop, length-take}
 use lib.ListN.{length-map}
 use Rattle.std.proofs.lemmas.List.{append_assoc, map-append, take-append-drop, drop-drop, take_at, drop_at, take-take, drop-take, take-map, drop_more, take_more, append-nil}
-use Rattle.std.proofs.lemmas.Bool.{cases_lt}
+use Rattle.std.specs.Bool.{then_some}
+use Rattle.std.proofs.lemmas.Bool.{cases_lt, eqb-true, eqb-false}
 use Rattle.medium.proofs.Held.{held_same}
 use Rattle.medium.specs.Cells.{Cell, byte, held}
 use Rattle.code.specs.Codes.{Scalar, Begins, Laws}
-use Rattle.text.specs.Stands.{Holds, bytes_of, Scalars, Stands}
+use Rattle.text.specs.Stands.{Holds, Stepped, Expected, bytes_of, Scalars, Stands}
 
 -- how far bytes that stand reach
 pub reach : (cs : List Cell) (k : ℕ) (bs : List ℕ) → 1 ≤ length bs → Holds cs k bs → k + length bs ≤ length cs
@@ -53,6 +54,14 @@ module _ (enc : ℕ → List ℕ) (unit : ℕ) (laws : Laws enc unit) where
   only cs k v w sv sw e f =
       ⊎_elim (λ h. laws.apart v w sv sw (begins cs k v w (omega arith) e f)) (λ h. sym (laws.apart w v sw sv (begins cs k w v (omega arith) f e)))
       (cases_lt (length (enc v)) (length (enc w)))
+
+  -- the character that stands at a place, taken if it is the one that is wanted
+  pub expected : (cs : List Cell) (k v e w : ℕ) (r : Option ℕ) → Stepped enc cs k (Some (v, e)) → r ≡ then_some (v == w) e → Expected enc cs k w r
+  expected cs k v e w r s p = rw p (by (v == w) refl)
+    where
+      by : (b : Bool) → (v == w) ≡ b → Expected enc cs k w (then_some b e)
+      by true q = subst (λ (x : ℕ). Expected enc cs k x (Some e)) (eqb-true v w q) s
+      by false q = λ t h. eqb-false v w q (only cs k v w s.0 t s.1 h)
 
   pub bytes_append : (xs ys : List ℕ) → bytes_of enc (xs ++ ys) ≡ bytes_of enc xs ++ bytes_of enc ys
   bytes_append [] ys = refl

@@ -1,35 +1,46 @@
 // One character at a place.
-ghost use Rattle.std.specs.Prelude.{◌≡◌, ◌≤◌, length, take};
+ghost use Rattle.std.specs.Prelude.{◌+◌, ◌≤◌, IfOk, length};
 ghost use Rattle.text.specs.Gathers.{Ended};
 ghost use Rattle.text.specs.Stands.{CharAt, Holds};
 
+use crate::Text;
+use arrayvec::ArrayVec;
 use code::{CodeFault, TextCode};
 use medium::Medium;
 
-// The bytes that stand from a place on: up to the fourth, a lost cell or the end of the medium. What is past the count means
-// nothing.
+// The most bytes of a character.
+const MOST_BYTES: usize = 4;
+
+impl<'m, C: TextCode, M: Medium> Text<'m, C, M> {
+    // The character at a place, and how many cells hold it.
+    pub fn char_at(&self, at: usize) -> Result<(char, usize), CodeFault>
+        ensures char { CharAt C.TextCode.enc self.now at result }
+        ensures inside { IfOk result (λ c. at + c.1 ≤ 1048576) }
+    {
+        let Gathered { bytes, refusal } = gather(self.medium, at);
+        C::decode(bytes.as_slice()).map_err(|_| refusal)
+    }
+}
+
+// The bytes that stand from a place on: up to the fourth, a lost cell or the end of the medium.
 #[derive(Drop)]
 struct Gathered {
-    bytes: [u8; 4],
-    count: usize,
+    bytes: ArrayVec<u8, 4>,
     // The fault if these bytes begin with no character.
     refusal: CodeFault,
 }
 
 fn gather<M: Medium>(m: &M, at: usize) -> Gathered
-    ensures few { result.count ≤ length result.bytes }
-    ensures held { Holds (M.Medium.cells m.now) at (take result.count result.bytes) }
-    ensures ended { Ended (M.Medium.cells m.now) at result.count result.refusal }
+    ensures held { Holds (M.Medium.cells m.now) at result.bytes.items }
+    ensures ended { Ended (M.Medium.cells m.now) at (length result.bytes.items) result.refusal }
 {
-    let mut bytes = [0; 4];
-    let count = m.size().saturating_sub(at).min(bytes.len());
-    for i in 0..count {
-        match m.fetch(at + i) {
-            Ok(b) => bytes[i] = b,
+    let mut bytes = ArrayVec::new();
+    for place in at..m.size().min(at.saturating_add(MOST_BYTES)) {
+        match m.fetch(place) {
+            Ok(b) => bytes.push(b),
             Err(e) => {
                 return Gathered {
                     bytes,
-                    count: i,
                     refusal: CodeFault::Unread(e),
                 };
             }
@@ -37,22 +48,6 @@ fn gather<M: Medium>(m: &M, at: usize) -> Gathered
     }
     Gathered {
         bytes,
-        count,
         refusal: CodeFault::NoCharacter { place: at },
-    }
-}
-
-// The character at a place, and how many cells hold it.
-pub fn char_at<C: TextCode, M: Medium>(m: &M, at: usize) -> Result<(char, usize), CodeFault>
-    ensures { CharAt C.TextCode.enc (M.Medium.cells m.now) at result }
-{
-    let Gathered {
-        bytes,
-        count,
-        refusal,
-    } = gather(m, at);
-    match C::decode(&bytes[..count]) {
-        Ok(c) => Ok(c),
-        Err(_) => Err(refusal),
     }
 }

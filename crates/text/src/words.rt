@@ -1,35 +1,35 @@
 // Words at a place, character by character.
 ghost use Rattle.text.specs.Stands.{Expected, Stepped, WordAt};
 
-use crate::character::char_at;
+use crate::Text;
 use code::TextCode;
 use medium::Medium;
 
-// The character at a place, and the place behind it.
-pub fn step<C: TextCode, M: Medium>(m: &M, at: usize) -> Option<(char, usize)>
-    ensures { Stepped C.TextCode.enc (M.Medium.cells m.now) at result }
-{
-    match char_at::<C, M>(m, at) {
-        Ok((c, count)) => Some((c, at + count)),
-        Err(_) => None,
+impl<'m, C: TextCode, M: Medium> Text<'m, C, M> {
+    // The character at a place, and the place behind it.
+    pub fn step(&self, at: usize) -> Option<(char, usize)>
+        ensures { Stepped C.TextCode.enc self.now at result }
+    {
+        let (c, count) = self.char_at(at).ok()?;
+        Some((c, at + count))
     }
-}
 
-// The place behind a character, if it stands at `at`.
-pub fn expect<C: TextCode, M: Medium>(m: &M, at: usize, wanted: char) -> Option<usize>
-    ensures { Expected C.TextCode.enc (M.Medium.cells m.now) at wanted result }
-{
-    let (c, behind) = step::<C, M>(m, at)?;
-    if c == wanted { Some(behind) } else { None }
-}
-
-// The place behind a word, if it stands at `at`. Each byte of the word is a character.
-pub fn word_at<C: TextCode, M: Medium>(m: &M, at: usize, word: &[u8]) -> Option<usize>
-    ensures { WordAt C.TextCode.enc (M.Medium.cells m.now) at word.now result }
-{
-    let mut behind = at;
-    for c in word {
-        behind = expect::<C, M>(m, behind, *c as char)?;
+    // The place behind a character, if it stands at `at`.
+    pub fn expect(&self, at: usize, wanted: char) -> Option<usize>
+        ensures { Expected C.TextCode.enc self.now at wanted result }
+    {
+        let (c, behind) = self.step(at)?;
+        (c == wanted).then_some(behind)
     }
-    Some(behind)
+
+    // The place behind a word, if it stands at `at`. Each byte of the word is a character.
+    pub fn word_at(&self, at: usize, word: &[u8]) -> Option<usize>
+        ensures { WordAt C.TextCode.enc self.now at word.now result }
+    {
+        let mut behind = at;
+        for c in word {
+            behind = self.expect(behind, char::from(*c))?;
+        }
+        Some(behind)
+    }
 }

@@ -18,10 +18,7 @@ fn front<C: TextCode>(bytes: &[u8]) -> (char, usize)
     ensures some { 0 < result.1 }
     ensures within { result.1 ≤ length bytes.now }
 {
-    match C::decode(bytes) {
-        Ok(found) => found,
-        Err(_) => ('\u{FFFD}', C::unit().min(bytes.len())),
-    }
+    C::decode(bytes).unwrap_or(('\u{FFFD}', C::unit().min(bytes.len())))
 }
 
 // The character that stands first.
@@ -40,11 +37,11 @@ fn show_decoded<C: TextCode>(rt: &impl Print, code: &str, bytes: &[u8]) -> io::R
 fn show_stepped<C: TextCode>(rt: &impl Print, code: &str, bytes: &[u8]) -> io::Result<()> {
     let shown = Hex(bytes);
     print!(rt; "{code} {shown} stepped:")?;
-    let mut at = 0;
-    while at < bytes.len() {
-        let (c, n) = front::<C>(&bytes[at..]);
+    let mut rest = bytes;
+    while !rest.is_empty() {
+        let (c, n) = front::<C>(rest);
         print!(rt; " {:04X}", u32::from(c))?;
-        at += n;
+        rest = &rest[n..];
     }
     println!(rt; "")
 }
@@ -52,10 +49,8 @@ fn show_stepped<C: TextCode>(rt: &impl Print, code: &str, bytes: &[u8]) -> io::R
 // The bytes of a code point.
 fn show_encoded<C: TextCode>(rt: &impl Print, code: &str, v: u32) -> io::Result<()> {
     match C::encode(v) {
-        Ok(found) => {
-            let bytes = found.0;
-            let n = found.1;
-            let shown = Hex(&bytes[0..n]);
+        Ok(bytes) => {
+            let shown = Hex(bytes.as_slice());
             println!(rt; "{code} encode U+{v:04X}: {shown}")
         }
         Err(_) => println!(rt; "{code} encode U+{v:04X}: refused"),

@@ -1,3 +1,4 @@
 pub mod Volumes
 pub mod Sealing
 pub mod Verdicts
+pub mod Puts

@@ -1,19 +1,30 @@
 -- A data byte is written and the check of its block renewed: what that changes, and what it does not.
-use Rattle.std.proofs.Common.{◌≡◌, ℕ, ◌+◌, ◌*◌, ◌/◌, ◌%◌, ◌<◌, ◌≤◌, min, Bool, true, false, cond, eqb, ◌≢◌, ◌⊎◌, List, [], ◌∷◌, length, get_or, take, drop, set, sym, ap, ◌∙◌, subst, ap₂, inl, inr, ⊎_elim, add_assoc, mod-eq_of_lt, arith, length-drop, length-set, length-take}
+use Rattle.std.proofs.Common.{◌≡◌, ℕ, ◌+◌, ◌*◌, ◌/◌, ◌%◌, ◌<◌, ◌≤◌, min, zero, suc, ◌-◌, true, cond, eqb, ◌≢◌, ◌⊎◌, List, [], ◌∷◌, length, get_or, take, drop, set, sym, refl, ap, ◌∙◌, subst, ap₂, inl, inr, ⊎_elim, add_assoc, mod-eq_of_lt, suc-add, w32, arith, length-drop, length-set, length-take}
+use Rattle.std.specs.Int.{from_be_bytes}
+use borrow.Rule.Slice.PartMut.{put_mid}
 use Rattle.std.proofs.lemmas.Nat.{shr-shr}
 use Rattle.std.proofs.lemmas.Bool.{eq-eqb, cases_eq, cases_order}
-use Rattle.std.proofs.lemmas.List.{get_or-take, get_or-drop, get_or-set_same, get_or-set_other, ext_get_or}
+use Rattle.std.proofs.lemmas.List.{get_or-take, get_or-drop, get_or-set_same, get_or-set_other, ext_get_or, take-take}
 use Rattle.medium.specs.Cells.{byte, lost}
-use Rattle.volume.specs.Blocks.{blocks, sound_at, stored_at, data_at, check_of}
+use Rattle.volume.specs.Blocks.{blocks, cell_of, sound_at, stored_at, data_at, check_of, volume_cells}
 use Rattle.volume.specs.Renewed.{sealed, checked, renewed}
-use Rattle.volume.specs.Seen.{seen, seen_at}
 use Rattle.volume.proofs.Volumes as vol
 
+-- four bytes that are copied are written one by one
+copied : (xs : List ℕ) (p a b c d : ℕ) → p + 4 ≤ length xs → put_mid p 4 xs (a ∷ b ∷ c ∷ d ∷ []) ≡ set (set (set (set xs p a) (p + 1) b) (p + 2) c) (p + 3) d
+copied (x ∷ y ∷ z ∷ w ∷ xs) zero a b c d h = refl
+copied (x ∷ xs) (suc p) a b c d h =
+    rw (suc-add p 1, suc-add p 2, suc-add p 3) (ap (λ t. x ∷ t) (copied xs p a b c d (omega arith)))
+copied [] p a b c d h = absurd (omega arith)
+copied (x ∷ []) zero a b c d h = absurd (omega arith)
+copied (x ∷ y ∷ []) zero a b c d h = absurd (omega arith)
+copied (x ∷ y ∷ z ∷ []) zero a b c d h = absurd (omega arith)
+
 -- the four bytes of a number, as to_be_bytes gives them
-pub checked-as : (bs : List ℕ) (k n m : ℕ) (r : List ℕ) → r ≡ (n / 16777216 % 256) ∷ (n / 65536 % 256) ∷ (n / 256 % 256) ∷ (n % 256) ∷ [] → n ≡ m → set (set (set (set bs (512 * k + 508) (get_or r 0 0)) (512 * k + 508 + 1) (get_or r 1 0)) (512 * k + 508 + 2) (get_or r 2 0)) (512 * k + 508 + 3) (get_or r 3 0) ≡ checked bs k m
-checked-as bs k n m r e q =
-    ap (λ (r : List ℕ). set (set (set (set bs (512 * k + 508) (get_or r 0 0)) (512 * k + 508 + 1) (get_or r 1 0)) (512 * k + 508 + 2) (get_or r 2 0)) (512 * k + 508 + 3) (get_or r 3 0)) e
-    ∙ ap (λ (x : ℕ). checked bs k x) q
+pub checked-as : (bs : List ℕ) (k n m : ℕ) (r s : List ℕ) → 512 * k + 512 ≤ length bs → s ≡ r → r ≡ (n / 16777216 % 256) ∷ (n / 65536 % 256) ∷ (n / 256 % 256) ∷ (n % 256) ∷ [] → n ≡ m → put_mid (512 * k + 508) (512 * k + 508 + 4 - (512 * k + 508)) bs s ≡ checked bs k m
+checked-as bs k n m r s h t e q =
+    let f : 512 * k + 508 + 4 - (512 * k + 508) ≡ 4 = omega arith in
+    ap₂ (λ i ys. put_mid (512 * k + 508) i bs ys) f (t ∙ e) ∙ copied bs (512 * k + 508) _ _ _ _ (omega arith) ∙ ap (λ (x : ℕ). checked bs k x) q
 
 -- a place outside the four bytes is as it was
 beside : (bs : List ℕ) (k n q : ℕ) → (q < 512 * k + 508) ⊎ (512 * k + 512 ≤ q) → get_or (checked bs k n) q 0 ≡ get_or bs q 0
@@ -67,6 +78,27 @@ stored_back bs k n l h =
     let g10 : get_or (set b2 p11 x3) p10 0 ≡ x2 = get_or-set_other b2 p11 p10 x3 0 (omega arith) ∙ get_or-set_same b1 p10 x2 0 (omega arith) in
     let g11 : get_or (set b2 p11 x3) p11 0 ≡ x3 = get_or-set_same b2 p11 x3 0 (omega arith) in
     joined _ _ _ _ x0 x1 x2 x3 g8 g9 g10 g11 ∙ four n h
+
+-- the check of a block as its last four bytes
+stored_last : (bs : List ℕ) (k : ℕ) (ys : List ℕ) → ys ≡ drop 508 (take 512 (drop (512 * k) bs)) → from_be_bytes w32 ys ≡ stored_at bs k
+stored_last bs k ys e =
+    joined _ _ _ _ _ _ _ _ (at 0 _ (omega arith) (omega arith)) (at 1 _ (omega arith) (omega arith)) (at 2 _ (omega arith) (omega arith))
+    (at 3 _ (omega arith) (omega arith))
+  where
+    at : (i j : ℕ) → i < 4 → 512 * k + (508 + i) ≡ j → get_or ys i 0 ≡ get_or bs j 0
+    at i j h q =
+        ap (λ zs. get_or zs i 0) e ∙ get_or-drop 508 (take 512 (drop (512 * k) bs)) i 0
+        ∙ get_or-take 512 (drop (512 * k) bs) (508 + i) 0 (omega arith)
+        ∙ get_or-drop (512 * k) bs (508 + i) 0 ∙ ap (λ j. get_or bs j 0) q
+
+-- a block that is cut before its last four bytes
+pub cut : (bs : List ℕ) (k : ℕ) (block front check : List ℕ) → 512 * k + 512 ≤ length bs → block ≡ take (512 * k + 512 - 512 * k) (drop (512 * k) bs) → front ≡ take (length block - 4) block → check ≡ drop (length block - 4) block → (from_be_bytes w32 check ≡ stored_at bs k) × (front ≡ data_at bs k)
+cut bs k block front check h e d c =
+    let n : 512 * k + 512 - 512 * k ≡ 512 = omega arith in
+    let p : block ≡ take 512 (drop (512 * k) bs) = e ∙ ap (λ n. take n (drop (512 * k) bs)) n in
+    let l : length (take 512 (drop (512 * k) bs)) ≡ 512 = simp (length-take, length-drop) (omega arith) in
+    let m : length block - 4 ≡ 508 = omega (arith, ap length p) in
+    (stored_last bs k check (c ∙ ap₂ drop m p), d ∙ ap₂ take m p ∙ take-take 508 512 (drop (512 * k) bs) (omega arith))
 
 -- blocks with the same bytes have the same data and are sound together
 data_same : (xs ys : List ℕ) (s : ℕ) → length xs ≡ length ys → ((i : ℕ) → i < 508 → get_or xs (s + i) 0 ≡ get_or ys (s + i) 0) → take 508 (drop s xs) ≡ take 508 (drop s ys)
@@ -133,8 +165,8 @@ pub same_blocks : (bs : List ℕ) (k i b : ℕ) → blocks (renewed bs k i b) �
 same_blocks bs k i b = ap (λ n. min 2048 (n / 512)) (renewed-length bs k i b)
 
 -- every other cell is as it was
-cell_elsewhere : (f : List Bool) (bs : List ℕ) (k i b q : ℕ) → i < 508 → q ≢ 508 * k + i → seen_at f (renewed bs k i b) q ≡ seen_at f bs q
-cell_elsewhere f bs k i b q hi ne = ap (λ v. cond (get_or f (q / 508) false) (byte v) lost) (⊎_elim same far (cases_eq (q / 508) k))
+cell_elsewhere : (bs : List ℕ) (k i b q : ℕ) → i < 508 → q ≢ 508 * k + i → sound_at (renewed bs k i b) (q / 508) ≡ sound_at bs (q / 508) → cell_of (renewed bs k i b) q ≡ cell_of bs q
+cell_elsewhere bs k i b q hi ne t = ap₂ (λ s v. cond s (byte v) lost) t (⊎_elim same far (cases_eq (q / 508) k))
   where
     same : q / 508 ≡ k → get_or (renewed bs k i b) (512 * (q / 508) + q % 508) 0 ≡ get_or bs (512 * (q / 508) + q % 508) 0
     same e = elsewhere bs k i b (512 * (q / 508) + q % 508) (omega arith) (inl (omega arith))
@@ -143,11 +175,11 @@ cell_elsewhere f bs k i b q hi ne = ap (λ v. cond (get_or f (q / 508) false) (b
     far n = elsewhere bs k i b (512 * (q / 508) + q % 508) (omega arith) (other_block (q / 508) k (q % 508) n (omega arith))
 
 -- so the cells have the byte, and nothing else has changed
-pub put_cells : (f : List Bool) (bs : List ℕ) (p b : ℕ) → p < 508 * blocks bs → get_or f (p / 508) false ≡ true → seen f (renewed bs (p / 508) (p % 508) b) ≡ set (seen f bs) p (byte b)
-put_cells f bs p b h t =
-    ext_get_or lost (seen f after) (set (seen f bs) p (byte b))
-    (vol.size f after ∙ ap (λ n. 508 * n) same ∙ sym (vol.size f bs) ∙ sym (length-set (seen f bs) p (byte b)))
-    (λ q g. let hq : q < 508 * blocks bs = rw (← same) (rw (← vol.size f after) g) in
+pub put_cells : (bs : List ℕ) (p b : ℕ) → p < 508 * blocks bs → sound_at bs (p / 508) ≡ true → check_of (data_at (set bs (512 * (p / 508) + p % 508) b) (p / 508)) < 4294967296 → volume_cells (renewed bs (p / 508) (p % 508) b) ≡ set (volume_cells bs) p (byte b)
+put_cells bs p b h t small =
+    ext_get_or lost (volume_cells after) (set (volume_cells bs) p (byte b))
+    (vol.size after ∙ ap (λ n. 508 * n) same ∙ sym (vol.size bs) ∙ sym (length-set (volume_cells bs) p (byte b)))
+    (λ q g. let hq : q < 508 * blocks bs = rw (← same) (rw (← vol.size after) g) in
     ⊎_elim (λ e. rw e at_p) (λ ne. at_other q hq ne) (cases_eq q p))
   where
     after : List ℕ
@@ -156,12 +188,15 @@ put_cells f bs p b h t =
     same : blocks after ≡ blocks bs
     same = same_blocks bs (p / 508) (p % 508) b
 
-    at_p : get_or (seen f after) p lost ≡ get_or (set (seen f bs) p (byte b)) p lost
-    at_p =
-        vol.whole f after p (rw same h) t ∙ ap byte (here bs (p / 508) (p % 508) b (omega arith) (vol.within (length bs) p h).2)
-        ∙ sym (get_or-set_same (seen f bs) p (byte b) lost (rw (vol.size f bs) h))
+    sound : (j : ℕ) → sound_at after j ≡ sound_at bs j
+    sound = sound_after bs (p / 508) (p % 508) b (omega arith) (vol.within (length bs) p h).2 t small
 
-    at_other : (q : ℕ) → q < 508 * blocks bs → q ≢ p → get_or (seen f after) q lost ≡ get_or (set (seen f bs) p (byte b)) q lost
+    at_p : get_or (volume_cells after) p lost ≡ get_or (set (volume_cells bs) p (byte b)) p lost
+    at_p =
+        vol.whole after p (p / 508) refl (rw same h) (sound (p / 508) ∙ t) ∙ ap byte (here bs (p / 508) (p % 508) b (omega arith) (vol.within (length bs) p h).2)
+        ∙ sym (get_or-set_same (volume_cells bs) p (byte b) lost (rw (vol.size bs) h))
+
+    at_other : (q : ℕ) → q < 508 * blocks bs → q ≢ p → get_or (volume_cells after) q lost ≡ get_or (set (volume_cells bs) p (byte b)) q lost
     at_other q hq ne =
-        vol.at f after q (rw same hq) ∙ cell_elsewhere f bs (p / 508) (p % 508) b q (omega arith) (omega arith) ∙ sym (vol.at f bs q hq)
-        ∙ sym (get_or-set_other (seen f bs) p q (byte b) lost ne)
+        vol.at after q (rw same hq) ∙ cell_elsewhere bs (p / 508) (p % 508) b q (omega arith) (omega arith) (sound (q / 508)) ∙ sym (vol.at bs q hq)
+        ∙ sym (get_or-set_other (volume_cells bs) p q (byte b) lost ne)

@@ -38,6 +38,10 @@ abbrev pub BlockAt : List ℕ → ℕ → Option Block → Type 0
 BlockAt bs k None = blocks bs ≤ k
 BlockAt bs k (Some b) = (k < blocks bs) × (b.stored ≡ stored_at bs k) × (b.due ≡ check_of (data_at bs k))
 
+-- what an examination of all the checks finds, block by block
+unfoldable pub verdicts : List ℕ → List Bool
+verdicts bs = map (readable bs) (range_with_len 0 2048)
+
 -- data byte i of block k is cell 508 k + i
 abbrev pub cell_of : List ℕ → ℕ → Cell
 cell_of bs p = cond (sound_at bs (p / 508)) (byte (slice_index bs (512 * (p / 508) + p % 508))) lost

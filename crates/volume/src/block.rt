@@ -25,20 +25,21 @@ impl Block {
     }
 }
 
-// The check of some data bytes, of which there are at most as many as a block has.
+// The check of some data bytes, of which there are at most as many as a block has. (By a rule of the project a loop over the
+// bytes with their numbers.)
 pub(crate) fn weigh(bytes: &[u8]) -> u32
     requires { length bytes.now ≤ 508 }
     ensures { result ≡ check_of bytes.now }
 {
     let mut sum: u32 = 1;
     for (i, b) in bytes.iter().enumerate() {
-        sum += (i as u32 + 1) * *b as u32;
+        sum += (i as u32 + 1) * u32::from(*b);
     }
     sum
 }
 
 // The check of a block's data.
-pub fn data_check(block: &[u8; 508]) -> u32
+pub fn data_check(block: &[u8; DATA_BYTES]) -> u32
     ensures { result ≡ check_of block.now }
 {
     weigh(block)
@@ -51,7 +52,8 @@ pub fn block_count(bytes: &[u8]) -> usize
     (bytes.len() / BLOCK_BYTES).min(MOST_BLOCKS)
 }
 
-// The two checks of block `k`, if that block counts.
+// The two checks of block `k`, if that block counts. (Bytes and number stay two parameters: a view of both would be made and taken
+// apart at each call, and `renew` would want a second one that may write.)
 pub fn block_at(bytes: &[u8], k: usize) -> Option<Block>
     ensures { BlockAt bytes.now k result }
 {
@@ -59,14 +61,9 @@ pub fn block_at(bytes: &[u8], k: usize) -> Option<Block>
         return None;
     }
     let start = BLOCK_BYTES * k;
-    let check = start + DATA_BYTES;
-    let stored = u32::from_be_bytes([
-        bytes[check],
-        bytes[check + 1],
-        bytes[check + 2],
-        bytes[check + 3],
-    ]);
-    let due = weigh(&bytes[start..check]);
+    let (data, check) = bytes[start..start + BLOCK_BYTES].split_last_chunk()?;
+    let stored = u32::from_be_bytes(*check);
+    let due = weigh(data);
     Some(Block { stored, due })
 }
 
@@ -74,8 +71,5 @@ pub fn block_at(bytes: &[u8], k: usize) -> Option<Block>
 pub fn is_readable(bytes: &[u8], k: usize) -> bool
     ensures { result ≡ readable bytes.now k }
 {
-    match block_at(bytes, k) {
-        Some(block) => block.is_sound(),
-        None => false,
-    }
+    block_at(bytes, k).is_some_and(|block| block.is_sound())
 }

@@ -8,5 +8,5 @@
 mod block;
 mod reel;
 
-pub use block::{Block, block_at, block_count, data_check, is_readable};
+pub use block::{BLOCK_BYTES, Block, DATA_BYTES, block_at, block_count, data_check, is_readable};
 pub use reel::Volume;

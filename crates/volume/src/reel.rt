@@ -1,40 +1,51 @@
 // The reel volume as a medium.
-ghost use Rattle.std.specs.Prelude.{◌≡◌, ◌+◌, ◌*◌, ◌^◌, ◌<◌, slice_set};
-ghost use Rattle.volume.specs.Blocks.{blocks, check_of, data_at, volume_cells};
+ghost use Rattle.std.specs.Prelude.{◌≡◌, ◌+◌, ◌*◌, ◌/◌, ◌^◌, ◌<◌, true, slice_set, MatchResult};
+ghost use Rattle.medium.specs.Access.{Refuses};
+ghost use Rattle.volume.specs.Blocks.{blocks, check_of, data_at, sound_at, verdicts, volume_cells};
 ghost use Rattle.volume.specs.Renewed.{renewed};
-ghost use Rattle.volume.specs.Seen.{VolumeKept, seen, verdicts, volume_bounded, volume_frame};
 
 use crate::block::{BLOCK_BYTES, DATA_BYTES, MOST_BLOCKS, block_count, is_readable, weigh};
-use medium::{Medium, MediumFault};
+use medium::{Medium, MediumFault, in_range};
 
-// The blocks of the bytes that it was lent. Their checks are examined once, when the volume is made, and `put` keeps them true.
+// The blocks of the bytes that it was lent. Their checks are examined once, when the volume is made, and `put` keeps the flags
+// true of the bytes.
 #[derive(Drop)]
 pub struct Volume<'a> {
     bytes: &'a mut [u8],
-    sound: [bool; 2048],
+    // A flag for each block that may count, beside the bytes and in fixed memory: the engine allocates nothing.
+    sound: [bool; MOST_BLOCKS],
+    // The flags say which blocks count and are sound.
+    ghost truthful: { sound ≡ verdicts bytes.now },
 }
 
 impl<'a> Volume<'a> {
     pub fn new(bytes: &'a mut [u8]) -> Volume<'a>
         ensures holds { result.bytes.now ≡ bytes.old }
         ensures lends { result.bytes.ghost_name ≡ bytes.entry.ghost_name }
-        ensures examined { result.sound ≡ verdicts bytes.old }
-        ensures shows { seen result.sound result.bytes.now ≡ volume_cells bytes.old }
     {
         let sound = examine(bytes);
         Volume { bytes, sound }
     }
+
+    // The block of a place, if its cells can be read.
+    fn sound_block(&self, at: usize) -> Result<usize, MediumFault>
+        ensures { MatchResult result (λ k. (k ≡ at / 508) × (at < 508 * blocks self.now.bytes.now) × (sound_at self.now.bytes.now k ≡ true)) (λ e. Refuses (volume_cells self.now.bytes.now) at e) }
+    {
+        in_range(at, self.size())?;
+        let k = at / DATA_BYTES;
+        if self.sound[k] {
+            Ok(k)
+        } else {
+            Err(MediumFault::Lost { place: at })
+        }
+    }
 }
 
 // Which blocks count and are sound.
-fn examine(bytes: &[u8]) -> [bool; 2048]
+fn examine(bytes: &[u8]) -> [bool; MOST_BLOCKS]
     ensures { result ≡ verdicts bytes.now }
 {
-    let mut sound = [false; 2048];
-    for k in 0..MOST_BLOCKS {
-        sound[k] = is_readable(bytes, k);
-    }
-    sound
+    std::array::from_fn(|k| is_readable(bytes, k))
 }
 
 // Writes data byte `i` of block `k`, and the block's check anew.
@@ -48,47 +59,34 @@ fn renew(bytes: &mut [u8], k: usize, i: usize, b: u8)
     let check = start + DATA_BYTES;
     bytes[start + i] = b;
     let due = weigh(&bytes[start..check]).to_be_bytes();
-    bytes[check] = due[0];
-    bytes[check + 1] = due[1];
-    bytes[check + 2] = due[2];
-    bytes[check + 3] = due[3];
+    bytes[check..check + 4].copy_from_slice(&due);
 }
 
 impl<'a> Medium for Volume<'a> {
-    ghost cells = { λ v. seen v.sound v.bytes.now };
+    ghost use Rattle.volume.specs.Kept.{VolumeKept};
+    ghost use Rattle.volume.specs.Laws.{volume_bounded, volume_frame};
 
-    ghost bounded = { λ v. volume_bounded v.sound v.bytes.now };
+    ghost cells = { λ v. volume_cells v.bytes.now };
 
-    ghost kept = { λ v w. VolumeKept v.bytes.ghost_name v.sound v.bytes.now w.bytes.ghost_name w.sound w.bytes.now };
+    ghost bounded = { λ v. volume_bounded v.bytes.now };
 
-    ghost frame = { volume_frame (λ v. v.bytes.ghost_name) (λ v. v.sound) (λ v. v.bytes.now) };
+    ghost kept = { VolumeKept };
 
+    ghost frame = { volume_frame };
+
+    #[tactic(auto, using(crate::proofs::Volumes::size))]
     fn size(&self) -> usize {
         DATA_BYTES * block_count(self.bytes)
     }
 
     fn fetch(&self, at: usize) -> Result<u8, MediumFault> {
-        if at >= self.size() {
-            return Err(MediumFault::OutOfRange { place: at });
-        }
-        let k = at / DATA_BYTES;
-        if self.sound[k] {
-            Ok(self.bytes[BLOCK_BYTES * k + at % DATA_BYTES])
-        } else {
-            Err(MediumFault::Lost { place: at })
-        }
+        let k = self.sound_block(at)?;
+        Ok(self.bytes[BLOCK_BYTES * k + at % DATA_BYTES])
     }
 
     fn put(&mut self, at: usize, b: u8) -> Result<(), MediumFault> {
-        if at >= (*self).size() {
-            return Err(MediumFault::OutOfRange { place: at });
-        }
-        let k = at / DATA_BYTES;
-        if self.sound[k] {
-            renew(self.bytes, k, at % DATA_BYTES, b);
-            Ok(())
-        } else {
-            Err(MediumFault::Lost { place: at })
-        }
+        let k = self.sound_block(at)?;
+        renew(self.bytes, k, at % DATA_BYTES, b);
+        Ok(())
     }
 }

@@ -19,10 +19,10 @@ returns g c =
     let cells = g.M.Medium.cells in
     let p = c.in_ok-put.ensures in
     let s = c.new-part.ensures.inner in
-    let n = sym (p.kept.2.0 ∙ ap (λ x. x.ghost_name) s) in
+    let n = sym (p.kept.inner.lent ∙ ap (λ x. x.ghost_name) s) in
     let m = c.args.m.now in
     let start : w.inner.now ≡ m = ap (λ x. x.now) s in
     record {
       put = answer (cells m) (cells w.inner.now) _ _ c.args.from w.from w.len c.args.at c.args.b c.fetch.result (ap cells start) c.new-part.ensures.from p.put.0 (ended (λ x. cells x ≡ set (cells w.inner.now) (w.from + c.args.at) (byte c.args.b)) z (search rules) p.under) c.fetch.ensures;
-      kept = ended (λ x. g.M.Medium.kept m x) z (search rules) (subst (λ x. g.M.Medium.kept x z) start p.kept.2.1);
+      kept = ended (λ x. g.M.Medium.kept m x) z (search rules) (subst (λ x. g.M.Medium.kept x z) start p.kept.inner.inner);
     }

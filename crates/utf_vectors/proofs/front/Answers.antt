@@ -1,11 +1,11 @@
--- A character's count is that of its bytes, and these come first.
-use Rattle.utf_vectors.proofs.Counts.{some_bytes, within-bytes}
+use Rattle.std.proofs.Common.{arith}
+use Rattle.utf_vectors.proofs.Counts.{front}
 use Rattle.utf_vectors.proofs.front.Goals as goal
 
-pub returns-in-Ok : goal.returns-in-Ok
-returns-in-Ok g c =
-    let d = c.in-Ok.ensures in
-    record {
-      some = some_bytes _ _ g.C.TextCode.laws _ _ d.0 d.2;
-      within = within-bytes g.C.TextCode.enc _ c.in-Ok.found.0 _ d.1 d.2;
-    }
+pub returns : goal.returns
+returns g c =
+    let laws = g.C.TextCode.laws in
+    let one = laws.some 32 (omega arith, λ h. omega arith) in
+    let space = laws.space in
+    let p = front g.C.TextCode.enc g.C.TextCode.unit laws c.args.bytes.now c.decode.result (65533, c.min.result) c.decode.ensures (omega arith, omega arith) in
+    rw c.unwrap_or.ensures (record { some = p.0; within = p.1 })

@@ -1,4 +1,4 @@
-use Rattle.characters.specs.Deciding.{within-decides, xml_decides, white_decides, local_decides, tag_decides, name-decides}
+use Rattle.characters.proofs.Deciding.{within-decides, xml_decides, white_decides, local_decides, tag_decides, name-decides}
 use Rattle.characters.proofs.classes.classes_are_decided.Goals as goal
 
 pub returns : goal.returns

@@ -1,4 +1,4 @@
-use Rattle.characters.specs.Members.{xml_scalar, white_xml, local_plain, tag_plain, name-plain}
+use Rattle.characters.proofs.Members.{xml_scalar, white_xml, local_plain, tag_plain, name-plain}
 use Rattle.characters.proofs.classes.names_are_plain.Goals as goal
 
 pub returns : goal.returns

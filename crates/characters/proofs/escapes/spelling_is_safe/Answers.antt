@@ -1,4 +1,4 @@
-use Rattle.characters.specs.Safe.{spelling-quiet, spellings-quiet, spelling-xml, spellings-xml, spelling-length, spellings-length, plain-spellings}
+use Rattle.characters.proofs.Safe.{spelling-quiet, spellings-quiet, spelling-xml, spellings-xml, spelling-length, spellings-length, plain-spellings}
 use Rattle.characters.proofs.escapes.spelling_is_safe.Goals as goal
 
 pub returns : goal.returns

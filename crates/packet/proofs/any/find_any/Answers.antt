@@ -1,56 +1,62 @@
-use Rattle.std.proofs.Common.{arith}
-use Rattle.std.proofs.lemmas.Result.{err_from_is_err_and}
-use Rattle.packet.specs.Any.{utf8, utf16be, utf16le}
-use Rattle.packet.proofs.Anywhere.{each, found, leasts, lows, none}
+use Rattle.std.proofs.Common.{◌⊎◌, MatchResult, sym, ◌∙◌, subst, inl, inr, rules}
+use Rattle.std.proofs.lemmas.Bool.{false≢true}
+use Rattle.code.specs.Utf8.{enc8}
+use Rattle.code.specs.Utf16.{big_pair, enc16, little_pair}
+use Rattle.packet.specs.Finds.{NoPacket, PacketAt}
+use Rattle.packet.specs.Any.{FoundAny, NoneInAny, NotAbove, utf8, utf16be, utf16le}
+use Rattle.packet.specs.declared.any.AnyFound.TheVariants.{InUtf8, InUtf16Be, InUtf16Le}
+use Rattle.packet.proofs.Anywhere.{below_third, each, firsts, found, handed_on, leasts, none, same, turned}
+use Rattle.packet.proofs.any.find_any.Goals.{else-comes_first-via-then-comes_first+else-comes_first-2, else-comes_first-via-else-comes_first}
 use Rattle.packet.proofs.any.find_any.Goals as goal
 
-pub returns-in_err-found : goal.returns-in_err-found
-returns-in_err-found g c =
+pub returns-then-comes_first-2 : goal.returns-then-comes_first-2
+returns-then-comes_first-2 g c =
     let cs = g.M.Medium.cells c.args.m.now in
-    let a = c.lowest_header-utf8.result in
-    let b = c.lowest_header-big.result in
-    let l = c.lowest_header-little.result in
-    let low = lows cs a b l c.lowest_header-utf8.ensures c.lowest_header-big.ensures c.lowest_header-little.ensures in
-    let p = err_from_is_err_and c.from_residual.result c.from_residual.ensures.1 in
-    rw (p.1, p.2) (none cs (each a b l) low utf8 (leasts a b l a (omega arith) (omega arith) (omega arith)) _ c.in_err-found.ensures)
+    let a = c.first_header-utf8.result in
+    let b = c.first_header-big.result in
+    let l = c.first_header-little.result in
+    let first = firsts cs _ _ _ a b l c.new-in_utf8.ensures c.new-in_big.ensures c.new-in_little.ensures c.first_header-utf8.ensures.first c.first_header-big.ensures.first c.first_header-little.ensures.first in
+    let low = leasts a b l a (same a) (search rules) (search rules) in
+    handed_on c.find.result c.map.result (λ f. InUtf8 f) _ _ (FoundAny cs) (NoneInAny cs)
+    (subst (λ s. MatchResult c.find.result (λ f. PacketAt enc8 s 1 f.extent.place f.extent.len f.writable) (NoPacket enc8 s 1)) c.new-in_utf8.ensures c.find.ensures)
+    (search rules)
+    (λ f p. found cs (each a b l) first utf8 low f.extent.place f.extent.len f.writable p)
+    (none cs (each a b l) first utf8 low)
 
-pub returns-then-utf8-little : goal.returns-then-utf8-little
-returns-then-utf8-little g c =
+pub returns-then-comes_first-3 : goal.returns-then-comes_first-3
+returns-then-comes_first-3 g c =
     let cs = g.M.Medium.cells c.args.m.now in
-    let a = c.lowest_header-utf8.result in
-    let b = c.lowest_header-big.result in
-    let l = c.lowest_header-little.result in
-    let low = lows cs a b l c.lowest_header-utf8.ensures c.lowest_header-big.ensures c.lowest_header-little.ensures in
-    found cs (each a b l) low utf8 (leasts a b l a (omega arith) (omega arith) (omega arith)) _ _ _ c.in_ok-found.ensures
+    let a = c.first_header-utf8.result in
+    let b = c.first_header-big.result in
+    let l = c.first_header-little.result in
+    let first = firsts cs _ _ _ a b l c.new-in_utf8.ensures c.new-in_big.ensures c.new-in_little.ensures c.first_header-utf8.ensures.first c.first_header-big.ensures.first c.first_header-little.ensures.first in
+    let beside : NotAbove b l = search rules in
+    let other : (NotAbove a b → ⊥) ⊎ (NotAbove a l → ⊥) = elim c.else-comes_first.branch [
+      | else-comes_first-via-then-comes_first+else-comes_first-2 w ↦ inr (λ h. false≢true (sym w.if-comes_first-2.false ∙ w.comes_first-then-comes_first.ensures.1 h))
+      | else-comes_first-via-else-comes_first w ↦ inl (λ h. false≢true (sym w.if-comes_first.false ∙ c.comes_first.ensures.1 h))
+    ] in
+    let low = leasts a b l b (below_third b a b l (same b) beside other) (same b) beside in
+    handed_on c.find-then-comes_first-3.result c.map-then-comes_first-3.result (λ f. InUtf16Be f) _ _ (FoundAny cs) (NoneInAny cs)
+    (subst (λ s. MatchResult c.find-then-comes_first-3.result (λ f. PacketAt (enc16 big_pair) s 2 f.extent.place f.extent.len f.writable) (NoPacket (enc16 big_pair) s 2)) c.new-in_big.ensures c.find-then-comes_first-3.ensures)
+    (search rules)
+    (λ f p. found cs (each a b l) first utf16be low f.extent.place f.extent.len f.writable p)
+    (none cs (each a b l) first utf16be low)
 
-pub returns-in_err-found-2 : goal.returns-in_err-found-2
-returns-in_err-found-2 g c =
+pub returns-else-comes_first-3 : goal.returns-else-comes_first-3
+returns-else-comes_first-3 g c =
     let cs = g.M.Medium.cells c.args.m.now in
-    let a = c.lowest_header-utf8.result in
-    let b = c.lowest_header-big.result in
-    let l = c.lowest_header-little.result in
-    let low = lows cs a b l c.lowest_header-utf8.ensures c.lowest_header-big.ensures c.lowest_header-little.ensures in
-    let either = c.else-utf8-big.either in
-    let p = err_from_is_err_and c.from_residual-in_err-found-2.result c.from_residual-in_err-found-2.ensures.1 in
-    rw (p.1, p.2) (none cs (each a b l) low utf16be (leasts a b l b (omega arith) (omega arith) (omega arith)) _ c.in_err-found-2.ensures)
-
-pub returns-in_err-found-3 : goal.returns-in_err-found-3
-returns-in_err-found-3 g c =
-    let cs = g.M.Medium.cells c.args.m.now in
-    let a = c.lowest_header-utf8.result in
-    let b = c.lowest_header-big.result in
-    let l = c.lowest_header-little.result in
-    let low = lows cs a b l c.lowest_header-utf8.ensures c.lowest_header-big.ensures c.lowest_header-little.ensures in
-    let either = c.else-utf8-big.either in
-    let p = err_from_is_err_and c.from_residual-in_err-found-3.result c.from_residual-in_err-found-3.ensures.1 in
-    rw (p.1, p.2) (none cs (each a b l) low utf16le (leasts a b l l (omega arith) (omega arith) (omega arith)) _ c.in_err-found-3.ensures)
-
-pub returns : goal.returns
-returns g c =
-    let cs = g.M.Medium.cells c.args.m.now in
-    let a = c.lowest_header-utf8.result in
-    let b = c.lowest_header-big.result in
-    let l = c.lowest_header-little.result in
-    let low = lows cs a b l c.lowest_header-utf8.ensures c.lowest_header-big.ensures c.lowest_header-little.ensures in
-    let either = c.else-utf8-big.either in
-    found cs (each a b l) low utf16le (leasts a b l l (omega arith) (omega arith) (omega arith)) _ _ _ c.in_ok-found-3.ensures
+    let a = c.first_header-utf8.result in
+    let b = c.first_header-big.result in
+    let l = c.first_header-little.result in
+    let first = firsts cs _ _ _ a b l c.new-in_utf8.ensures c.new-in_big.ensures c.new-in_little.ensures c.first_header-utf8.ensures.first c.first_header-big.ensures.first c.first_header-little.ensures.first in
+    let beside : NotAbove l b = turned b l (λ h. false≢true (sym c.if-comes_first-3.false ∙ c.comes_first-else-comes_first.ensures.1 h)) in
+    let other : (NotAbove a b → ⊥) ⊎ (NotAbove a l → ⊥) = elim c.else-comes_first.branch [
+      | else-comes_first-via-then-comes_first+else-comes_first-2 w ↦ inr (λ h. false≢true (sym w.if-comes_first-2.false ∙ w.comes_first-then-comes_first.ensures.1 h))
+      | else-comes_first-via-else-comes_first w ↦ inl (λ h. false≢true (sym w.if-comes_first.false ∙ c.comes_first.ensures.1 h))
+    ] in
+    let low = leasts a b l l (below_third l a b l beside (same l) other) beside (same l) in
+    handed_on c.find-else-comes_first-3.result c.map-else-comes_first-3.result (λ f. InUtf16Le f) _ _ (FoundAny cs) (NoneInAny cs)
+    (subst (λ s. MatchResult c.find-else-comes_first-3.result (λ f. PacketAt (enc16 little_pair) s 2 f.extent.place f.extent.len f.writable) (NoPacket (enc16 little_pair) s 2)) c.new-in_little.ensures c.find-else-comes_first-3.ensures)
+    (search rules)
+    (λ f p. found cs (each a b l) first utf16le low f.extent.place f.extent.len f.writable p)
+    (none cs (each a b l) first utf16le low)

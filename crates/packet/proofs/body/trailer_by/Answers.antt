@@ -1,10 +1,9 @@
-use Rattle.std.proofs.Common.{arith}
-use Rattle.packet.proofs.Bodies.{too_far}
+use Rattle.std.proofs.Common.{◌≡◌, None, MatchOption, nat_le, rules}
+use Rattle.std.specs.Bool.{then_some}
+use Rattle.packet.proofs.Bodies.{trailer-by}
 use Rattle.packet.proofs.body.trailer_by.Goals as goal
 
-pub returns-in_err-writable : goal.returns-in_err-writable
-returns-in_err-writable g c = rw c.from_residual.ensures (λ w t tr st l. c.in_err-writable.ensures w t tr st)
-
-pub returns-else-end-limit : goal.returns-else-end-limit
-returns-else-end-limit g c =
-    too_far g.C.TextCode.enc g.C.TextCode.unit g.C.TextCode.laws (g.M.Medium.cells c.args.m.now) c.args.limit c.args.at c.in_ok-writable.end c.in_ok-writable.writable c.in_ok-writable.ensures (omega arith)
+pub returns : goal.returns
+returns g c =
+    let e : MatchOption c.trailer_at.result (c.filter.result ≡ None) (λ x. c.filter.result ≡ then_some (nat_le x.end c.args.limit) x) = search rules in
+    trailer-by g.C.TextCode.enc g.C.TextCode.unit g.C.TextCode.laws c.args.text.now c.args.at c.args.limit c.trailer_at.result c.filter.result c.trailer_at.ensures e

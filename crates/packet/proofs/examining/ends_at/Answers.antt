@@ -1,11 +1,9 @@
-use Rattle.std.proofs.Common.{arith}
-use Rattle.packet.proofs.Again.{trailer-ends}
+use Rattle.packet.proofs.Again.{ends-at}
 use Rattle.packet.proofs.examining.ends_at.Goals as goal
 
-pub returns-in_err-writable : goal.returns-in_err-writable
-returns-in_err-writable g c = rw c.from_residual.ensures (λ w x. c.in_err-writable.ensures w x.0 x.1 x.2)
+pub returns-in_err-ending : goal.returns-in_err-ending
+returns-in_err-ending g c = rw c.from_residual.ensures (λ w x. c.in_err-ending.ensures w x.0 x.1 x.2)
 
-pub returns-else-behind-end : goal.returns-else-behind-end
-returns-else-behind-end g c = λ w x.
-    let same = trailer-ends g.C.TextCode.enc g.C.TextCode.unit g.C.TextCode.laws (g.M.Medium.cells c.args.m.now) c.args.at c.in_ok-writable.behind c.args.end c.in_ok-writable.writable w c.in_ok-writable.ensures x in
-    omega arith
+pub returns : goal.returns
+returns g c =
+    ends-at g.C.TextCode.enc g.C.TextCode.unit g.C.TextCode.laws c.args.text.now c.args.at c.args.end c.in_ok-ending.ending c.then_some.result c.in_ok-ending.ensures c.then_some.ensures

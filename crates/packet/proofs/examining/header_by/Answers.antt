@@ -1,11 +1,9 @@
-use Rattle.std.proofs.Common.{arith}
-use Rattle.packet.proofs.Again.{header-ends}
+use Rattle.std.proofs.Common.{◌≡◌, None, MatchOption, nat_le, rules}
+use Rattle.std.specs.Bool.{then_some}
+use Rattle.packet.proofs.Again.{header-by}
 use Rattle.packet.proofs.examining.header_by.Goals as goal
 
-pub returns-in_err-behind : goal.returns-in_err-behind
-returns-in_err-behind g c = rw c.from_residual.ensures (λ e x l. c.in_err-behind.ensures x.0 x.1 x.2)
-
-pub returns-else-behind-end : goal.returns-else-behind-end
-returns-else-behind-end g c = λ e x l.
-    let same = header-ends g.C.TextCode.enc g.C.TextCode.unit g.C.TextCode.laws (g.M.Medium.cells c.args.m.now) c.args.place c.in_ok-behind.behind e c.in_ok-behind.ensures x in
-    omega arith
+pub returns : goal.returns
+returns g c =
+    let e : MatchOption c.header_at.result (c.filter.result ≡ None) (λ x. c.filter.result ≡ then_some (nat_le x c.args.end) x) = search rules in
+    header-by g.C.TextCode.enc g.C.TextCode.unit g.C.TextCode.laws c.args.text.now c.args.place c.args.end c.header_at.result c.filter.result c.header_at.ensures e

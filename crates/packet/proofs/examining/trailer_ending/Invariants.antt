@@ -6,4 +6,4 @@ use Rattle.packet.proofs.examining.trailer_ending.Given as goal
 
 abbrev pub invariant-loop-at : goal.invariant-loop-at
 invariant-loop-at g l =
-    (p : ℕ) → l.low ≤ p → p < l.at → (w : Bool) → Ends g.C.TextCode.enc (g.M.Medium.cells l.m) (Trailer (mode_of w)) p (Some l.end) → ⊥
+    (p : ℕ) → l.low ≤ p → p < l.at → (w : Bool) → Ends g.C.TextCode.enc (l.text) (Trailer (mode_of w)) p (Some l.end) → ⊥

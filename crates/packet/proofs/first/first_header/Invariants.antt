@@ -5,4 +5,4 @@ use Rattle.packet.proofs.first.first_header.Given as goal
 
 abbrev pub invariant-loop-at : goal.invariant-loop-at
 invariant-loop-at g l =
-    (j : ℕ) → j < l.at → Ends g.C.TextCode.enc (g.M.Medium.cells l.m) (Header g.C.TextCode.unit) j None
+    (j : ℕ) → j < l.at → Ends g.C.TextCode.enc (l.text) (Header g.C.TextCode.unit) j None

@@ -7,38 +7,26 @@ use Rattle.packet.proofs.header.header_at.Goals as goal
 
 pub returns-in_err-begin : goal.returns-in_err-begin
 returns-in_err-begin g c =
-    let enc = g.C.TextCode.enc in
+    let read = parse.reading _ _ g.C.TextCode.laws c.args.text.now in
     let unit = g.C.TextCode.unit in
-    let laws = g.C.TextCode.laws in
-    let cs = g.M.Medium.cells c.args.m.now in
-    let k = c.args.at in
     rw c.from_residual.ensures
-    (parse.renamed enc unit laws cs (Heading unit) (Header unit) k None (header-from unit) (header-to unit)
-    (parse.without enc unit laws cs (codes "<?xpacket begin=") (Quoting (Marked unit)) k c.in_err-begin.ensures))
+    (parse.renamed read (Heading unit) (Header unit) c.args.at None (header-from unit) (header-to unit)
+    (parse.without read (codes "<?xpacket begin=") (Quoting (Marked unit)) c.args.at c.in_err-begin.ensures))
 
 pub returns-in_err-quote : goal.returns-in_err-quote
 returns-in_err-quote g c =
-    let enc = g.C.TextCode.enc in
+    let read = parse.reading _ _ g.C.TextCode.laws c.args.text.now in
     let unit = g.C.TextCode.unit in
-    let laws = g.C.TextCode.laws in
-    let cs = g.M.Medium.cells c.args.m.now in
-    let k = c.args.at in
-    let b = c.in_ok-begin.ensures in
     rw c.from_residual-in_err-quote.ensures
-    (parse.renamed enc unit laws cs (Heading unit) (Header unit) k None (header-from unit) (header-to unit)
-    (parse.after enc unit laws cs (codes "<?xpacket begin=") (Quoting (Marked unit)) k c.in_ok-begin.begin None b.0 b.1
-    (parse.unquoted enc unit laws cs (Marked unit) c.in_ok-begin.begin c.in_err-quote.ensures)))
+    (parse.renamed read (Heading unit) (Header unit) c.args.at None (header-from unit) (header-to unit)
+    (parse.after read (codes "<?xpacket begin=") (Quoting (Marked unit)) c.args.at c.in_ok-begin.begin None c.in_ok-begin.ensures
+    (parse.unquoted read (Marked unit) c.in_ok-begin.begin c.in_err-quote.ensures)))
 
 pub returns : goal.returns
 returns g c =
-    let enc = g.C.TextCode.enc in
+    let read = parse.reading _ _ g.C.TextCode.laws c.args.text.now in
     let unit = g.C.TextCode.unit in
-    let laws = g.C.TextCode.laws in
-    let cs = g.M.Medium.cells c.args.m.now in
-    let k = c.args.at in
-    let b = c.in_ok-begin.ensures in
-    let q = c.in_ok-quote.ensures in
-    let r = c.mark_at.result in
-    (parse.renamed enc unit laws cs (Heading unit) (Header unit) k r (header-from unit) (header-to unit)
-    (parse.after enc unit laws cs (codes "<?xpacket begin=") (Quoting (Marked unit)) k c.in_ok-begin.begin r b.0 b.1
-    (parse.quoted enc unit laws cs (Marked unit) c.in_ok-begin.begin c.in_ok-quote.quote c.in_ok-quote.inside r q.0 q.1 q.2 q.3 c.mark_at.ensures)))
+    let r = c.marked_at.result in
+    parse.renamed read (Heading unit) (Header unit) c.args.at r (header-from unit) (header-to unit)
+    (parse.after read (codes "<?xpacket begin=") (Quoting (Marked unit)) c.args.at c.in_ok-begin.begin r c.in_ok-begin.ensures
+    (parse.quoted read (Marked unit) c.in_ok-begin.begin c.in_ok-quote.quote c.in_ok-quote.inside r c.in_ok-quote.ensures c.marked_at.ensures))

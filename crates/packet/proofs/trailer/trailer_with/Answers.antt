@@ -1,91 +1,65 @@
-use Rattle.std.proofs.Common.{◌≡◌, ℕ, List, [], ◌∷◌, None, codes}
+use Rattle.std.proofs.Common.{◌≡◌, ℕ, List, [], ◌∷◌, Some, None, codes, subst}
+use Rattle.text.specs.Stands.{Expected}
+use Rattle.packet.specs.Finds.{mode_of}
 use Rattle.packet.specs.Texts.{Trailer}
 use Rattle.packet.specs.Parts.{Moded, Quoting, Then, Trailing}
 use Rattle.packet.proofs.Trailings.{trailer-from, trailer-to}
 use Rattle.packet.proofs.Parsing as parse
 use Rattle.packet.proofs.trailer.trailer_with.Goals as goal
 
+-- the end of a trailer
+abbrev Last : List ℕ → Type 0
+Last t = t ≡ codes "?>"
+
 pub returns-in_err-begin : goal.returns-in_err-begin
 returns-in_err-begin g c =
-    let enc = g.C.TextCode.enc in
-    let unit = g.C.TextCode.unit in
-    let laws = g.C.TextCode.laws in
-    let cs = g.M.Medium.cells c.args.m.now in
-    let k = c.args.at in
-    let mode = c.args.mode in
-    let Last : List ℕ → Type 0 = λ t. t ≡ codes "?>" in
+    let read = parse.reading _ _ g.C.TextCode.laws c.args.text.now in
+    let mode = mode_of c.args.writable in
     rw c.from_residual.ensures
-    (parse.renamed enc unit laws cs (Trailing mode) (Trailer mode) k None (trailer-from mode c.requires) (trailer-to mode)
-    (parse.without enc unit laws cs (codes "<?xpacket end=") (Quoting (Moded mode)) k c.in_err-begin.ensures))
+    (parse.renamed read (Trailing mode) (Trailer mode) c.args.at None (trailer-from c.args.writable) (trailer-to mode)
+    (parse.without read (codes "<?xpacket end=") (Quoting (Moded mode)) c.args.at c.in_err-begin.ensures))
 
 pub returns-in_err-quote : goal.returns-in_err-quote
 returns-in_err-quote g c =
-    let enc = g.C.TextCode.enc in
-    let unit = g.C.TextCode.unit in
-    let laws = g.C.TextCode.laws in
-    let cs = g.M.Medium.cells c.args.m.now in
-    let k = c.args.at in
-    let mode = c.args.mode in
-    let Last : List ℕ → Type 0 = λ t. t ≡ codes "?>" in
-    let b = c.in_ok-begin.ensures in
+    let read = parse.reading _ _ g.C.TextCode.laws c.args.text.now in
+    let mode = mode_of c.args.writable in
     rw c.from_residual-in_err-quote.ensures
-    (parse.renamed enc unit laws cs (Trailing mode) (Trailer mode) k None (trailer-from mode c.requires) (trailer-to mode)
-    (parse.after enc unit laws cs (codes "<?xpacket end=") (Quoting (Moded mode)) k c.in_ok-begin.begin None b.0 b.1
-    (parse.unquoted enc unit laws cs (Moded mode) c.in_ok-begin.begin c.in_err-quote.ensures)))
+    (parse.renamed read (Trailing mode) (Trailer mode) c.args.at None (trailer-from c.args.writable) (trailer-to mode)
+    (parse.after read (codes "<?xpacket end=") (Quoting (Moded mode)) c.args.at c.in_ok-begin.begin None c.in_ok-begin.ensures
+    (parse.unquoted read (Moded mode) c.in_ok-begin.begin c.in_err-quote.ensures)))
 
 pub returns-in_err-behind : goal.returns-in_err-behind
 returns-in_err-behind g c =
-    let enc = g.C.TextCode.enc in
-    let unit = g.C.TextCode.unit in
-    let laws = g.C.TextCode.laws in
-    let cs = g.M.Medium.cells c.args.m.now in
-    let k = c.args.at in
-    let mode = c.args.mode in
-    let Last : List ℕ → Type 0 = λ t. t ≡ codes "?>" in
-    let b = c.in_ok-begin.ensures in
-    let q = c.in_ok-quote.ensures in
+    let read = parse.reading _ _ g.C.TextCode.laws c.args.text.now in
+    let mode = mode_of c.args.writable in
+    let q = c.in_ok-quote.quote in
     rw c.from_residual-in_err-behind.ensures
-    (parse.renamed enc unit laws cs (Trailing mode) (Trailer mode) k None (trailer-from mode c.requires) (trailer-to mode)
-    (parse.after enc unit laws cs (codes "<?xpacket end=") (Quoting (Moded mode)) k c.in_ok-begin.begin None b.0 b.1
-    (parse.quoted enc unit laws cs (Moded mode) c.in_ok-begin.begin c.in_ok-quote.quote c.in_ok-quote.inside None q.0 q.1 q.2 q.3
-    (parse.without_one enc unit laws cs mode (Then (c.in_ok-quote.quote ∷ []) Last) c.in_ok-quote.inside c.in_err-behind.ensures))))
+    (parse.renamed read (Trailing mode) (Trailer mode) c.args.at None (trailer-from c.args.writable) (trailer-to mode)
+    (parse.after read (codes "<?xpacket end=") (Quoting (Moded mode)) c.args.at c.in_ok-begin.begin None c.in_ok-begin.ensures
+    (parse.quoted read (Moded mode) c.in_ok-begin.begin q c.in_ok-quote.inside None c.in_ok-quote.ensures
+    (parse.without_one read mode (Then (q ∷ []) Last) c.in_ok-quote.inside (subst (λ m. Expected read.enc read.cs c.in_ok-quote.inside m None) c.letter.ensures c.in_err-behind.ensures)))))
 
 pub returns-in_err-closed : goal.returns-in_err-closed
 returns-in_err-closed g c =
-    let enc = g.C.TextCode.enc in
-    let unit = g.C.TextCode.unit in
-    let laws = g.C.TextCode.laws in
-    let cs = g.M.Medium.cells c.args.m.now in
-    let k = c.args.at in
-    let mode = c.args.mode in
-    let Last : List ℕ → Type 0 = λ t. t ≡ codes "?>" in
-    let b = c.in_ok-begin.ensures in
-    let q = c.in_ok-quote.ensures in
-    let d = c.in_ok-behind.ensures in
+    let read = parse.reading _ _ g.C.TextCode.laws c.args.text.now in
+    let mode = mode_of c.args.writable in
+    let q = c.in_ok-quote.quote in
     rw c.from_residual-in_err-closed.ensures
-    (parse.renamed enc unit laws cs (Trailing mode) (Trailer mode) k None (trailer-from mode c.requires) (trailer-to mode)
-    (parse.after enc unit laws cs (codes "<?xpacket end=") (Quoting (Moded mode)) k c.in_ok-begin.begin None b.0 b.1
-    (parse.quoted enc unit laws cs (Moded mode) c.in_ok-begin.begin c.in_ok-quote.quote c.in_ok-quote.inside None q.0 q.1 q.2 q.3
-    (parse.after_one enc unit laws cs mode (Then (c.in_ok-quote.quote ∷ []) Last) c.in_ok-quote.inside c.in_ok-behind.behind None d.0 d.1 d.2
-    (parse.without_one enc unit laws cs c.in_ok-quote.quote Last c.in_ok-behind.behind c.in_err-closed.ensures)))))
+    (parse.renamed read (Trailing mode) (Trailer mode) c.args.at None (trailer-from c.args.writable) (trailer-to mode)
+    (parse.after read (codes "<?xpacket end=") (Quoting (Moded mode)) c.args.at c.in_ok-begin.begin None c.in_ok-begin.ensures
+    (parse.quoted read (Moded mode) c.in_ok-begin.begin q c.in_ok-quote.inside None c.in_ok-quote.ensures
+    (parse.after_one read mode (Then (q ∷ []) Last) c.in_ok-quote.inside c.in_ok-behind.behind None (subst (λ m. Expected read.enc read.cs c.in_ok-quote.inside m (Some c.in_ok-behind.behind)) c.letter.ensures c.in_ok-behind.ensures)
+    (parse.without_one read q Last c.in_ok-behind.behind c.in_err-closed.ensures)))))
 
 pub returns : goal.returns
 returns g c =
-    let enc = g.C.TextCode.enc in
-    let unit = g.C.TextCode.unit in
-    let laws = g.C.TextCode.laws in
-    let cs = g.M.Medium.cells c.args.m.now in
-    let k = c.args.at in
-    let mode = c.args.mode in
-    let Last : List ℕ → Type 0 = λ t. t ≡ codes "?>" in
-    let b = c.in_ok-begin.ensures in
-    let q = c.in_ok-quote.ensures in
-    let d = c.in_ok-behind.ensures in
-    let e = c.in_ok-closed.ensures in
+    let read = parse.reading _ _ g.C.TextCode.laws c.args.text.now in
+    let mode = mode_of c.args.writable in
+    let q = c.in_ok-quote.quote in
     let r = c.word_at-2.result in
-    (parse.renamed enc unit laws cs (Trailing mode) (Trailer mode) k r (trailer-from mode c.requires) (trailer-to mode)
-    (parse.after enc unit laws cs (codes "<?xpacket end=") (Quoting (Moded mode)) k c.in_ok-begin.begin r b.0 b.1
-    (parse.quoted enc unit laws cs (Moded mode) c.in_ok-begin.begin c.in_ok-quote.quote c.in_ok-quote.inside r q.0 q.1 q.2 q.3
-    (parse.after_one enc unit laws cs mode (Then (c.in_ok-quote.quote ∷ []) Last) c.in_ok-quote.inside c.in_ok-behind.behind r d.0 d.1 d.2
-    (parse.after_one enc unit laws cs c.in_ok-quote.quote Last c.in_ok-behind.behind c.in_ok-closed.closed r e.0 e.1 e.2
-    (parse.exactly enc unit laws cs (codes "?>") c.in_ok-closed.closed r c.word_at-2.ensures))))))
+    parse.renamed read (Trailing mode) (Trailer mode) c.args.at r (trailer-from c.args.writable) (trailer-to mode)
+    (parse.after read (codes "<?xpacket end=") (Quoting (Moded mode)) c.args.at c.in_ok-begin.begin r c.in_ok-begin.ensures
+    (parse.quoted read (Moded mode) c.in_ok-begin.begin q c.in_ok-quote.inside r c.in_ok-quote.ensures
+    (parse.after_one read mode (Then (q ∷ []) Last) c.in_ok-quote.inside c.in_ok-behind.behind r (subst (λ m. Expected read.enc read.cs c.in_ok-quote.inside m (Some c.in_ok-behind.behind)) c.letter.ensures c.in_ok-behind.ensures)
+    (parse.after_one read q Last c.in_ok-behind.behind c.in_ok-closed.closed r c.in_ok-closed.ensures
+    (parse.exactly read (codes "?>") c.in_ok-closed.closed r c.word_at-2.ensures)))))

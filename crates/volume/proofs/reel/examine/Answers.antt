@@ -1,6 +1,6 @@
-use Rattle.std.proofs.Common.{arith}
+use Rattle.std.proofs.Common.{rules}
 use Rattle.volume.proofs.Verdicts.{all}
 use Rattle.volume.proofs.reel.examine.Goals as goal
 
 pub returns : goal.returns
-returns c = all c.loop-k.sound c.args.bytes.now c.loop-k.invariant.0 (λ k h. c.loop-k.invariant.1 k (omega arith))
+returns c = all _ _ c.args.bytes.now _ (λ k b f h. search rules) c.from_fn.ensures.items

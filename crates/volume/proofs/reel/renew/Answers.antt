@@ -1,4 +1,4 @@
-use Rattle.std.proofs.Common.{◌≡◌, ◌+◌, ◌-◌, ◌*◌, take, drop, set, ap, ◌∙◌, arith}
+use Rattle.std.proofs.Common.{◌≡◌, ◌+◌, ◌-◌, ◌*◌, ◌≤◌, length, take, drop, set, ap, ◌∙◌, arith, length-set}
 use Rattle.volume.specs.Blocks.{check_of, data_at}
 use Rattle.volume.specs.Renewed.{sealed}
 use Rattle.volume.proofs.Sealing.{checked-as}
@@ -11,4 +11,5 @@ returns c =
     let bs = set c.args.bytes.now (s + c.args.i) c.args.b in
     let t : (s + 508) - s ≡ 508 = omega arith in
     let e : c.weigh.result ≡ check_of (data_at bs c.args.k) = c.weigh.ensures ∙ ap (λ n. check_of (take n (drop s bs))) t in
-    record { renewed = checked-as bs c.args.k _ _ _ c.to_be_bytes-due.ensures e; bound = omega arith }
+    let h : s + 512 ≤ length bs = simp length-set (omega arith) in
+    record { renewed = checked-as bs c.args.k _ _ _ _ h c.copy_from_slice.ensures.after c.to_be_bytes-due.ensures e; bound = omega arith }

@@ -1,4 +1,4 @@
-use Rattle.std.proofs.Common.{◌<◌, length, arith}
+use Rattle.std.proofs.Common.{◌<◌, length, arith, rules}
 use Rattle.medium.specs.Cells.{window}
 use Rattle.medium.proofs.Windows as win
 use Rattle.medium.proofs.window.WindowMedium.fetch.Goals as goal
@@ -10,16 +10,8 @@ overflow_add-self g c =
     let b = g.M.Medium.bounded w.inner in
     omega arith
 
-pub returns-in-Ok : goal.returns-in-Ok
-returns-in-Ok g c =
+pub returns : goal.returns
+returns g c =
     let w = c.args.self.now in
-    let cs = g.M.Medium.cells w.inner in
-    let h : c.args.at < length (window w.from w.len cs) = omega arith in
-    win.got w.from w.len cs _ _ h c.in-Ok.ensures
-
-pub returns-in-Err : goal.returns-in-Err
-returns-in-Err g c =
-    let w = c.args.self.now in
-    let cs = g.M.Medium.cells w.inner in
-    let h : c.args.at < length (window w.from w.len cs) = omega arith in
-    win.refused w.from w.len cs _ _ h c.in-Err.ensures
+    let h : c.args.at < length (window w.from w.len (g.M.Medium.cells w.inner)) = omega arith in
+    win.fetched w.from w.len (g.M.Medium.cells w.inner) _ _ _ h c.fetch.ensures (search rules)

@@ -1,4 +1,4 @@
-use Rattle.std.proofs.Common.{◌+◌, ◌<◌, length, take, drop, refl, ap, arith}
+use Rattle.std.proofs.Common.{◌<◌, length, refl, arith, rules}
 use Rattle.medium.specs.Cells.{window}
 use Rattle.medium.proofs.Windows as win
 use Rattle.medium.proofs.window.WindowMedium.put.Goals as goal
@@ -10,26 +10,21 @@ overflow_add-self g c =
     let b = g.M.Medium.bounded w.inner in
     omega arith
 
-pub returns-in-Ok : goal.returns-in-Ok
-returns-in-Ok g c =
+pub returns : goal.returns
+returns g c =
     let w = c.args.self.now in
     let cs = g.M.Medium.cells w.inner in
     let h : c.args.at < length (window w.from w.len cs) = omega arith in
-    let p = c.in-Ok.ensures.put in
+    let e : win.Renamed c.put.result c.args.at c.map_err.result = search rules in
+    let u = win.replaced cs (g.M.Medium.cells c.put.new.self) _ _ _ _ _ c.put.ensures.put e in
     record {
-      put = win.put_in w.from w.len cs _ _ _ _ h p;
-      kept = (refl, refl, c.in-Ok.ensures.kept, win.before w.from w.len cs _ _ _ p.2, win.behind w.from w.len cs _ _ _ h p.2);
-      under = p.2;
-    }
-
-pub returns-in-Err : goal.returns-in-Err
-returns-in-Err g c =
-    let w = c.args.self.now in
-    let cs = g.M.Medium.cells w.inner in
-    let h : c.args.at < length (window w.from w.len cs) = omega arith in
-    let p = c.in-Err.ensures.put in
-    record {
-      put = (win.refused w.from w.len cs _ _ h p.0, ap (window w.from w.len) p.1);
-      kept = (refl, refl, c.in-Err.ensures.kept, ap (take w.from) p.1, ap (drop (w.from + w.len)) p.1);
-      under = p.1;
+      put = win.put_in w.from w.len cs _ _ _ _ _ h c.put.ensures.put e;
+      kept = record {
+        from = refl;
+        len = refl;
+        inner = c.put.ensures.kept;
+        before = win.before w.from w.len cs _ _ _ _ u;
+        behind = win.behind w.from w.len cs _ _ _ _ h u;
+      };
+      under = u;
     }

@@ -1,7 +1,7 @@
 // Classes of characters.
 //
-// Each function answers whether a character lies in the ranges of its class. `first` says that the character opens a name. Where it
-// counts, the class stays a match on ranges with guards, to be held against its table line by line: a rule of the project.
+// Each function answers whether a character lies in the ranges of its class. `first` says that the character opens a name. The
+// two classes that ask it stay a match on ranges with guards, to be held against their tables line by line: a rule of the project.
 ghost use Rattle.std.specs.Prelude.{◌≡◌};
 ghost use Rattle.characters.specs.Classes.{is_local, is_name, is_tag, is_white, is_xml};
 ghost use Rattle.characters.specs.Theorems.{ClassesDecided, NamesPlain};

@@ -1,7 +1,8 @@
 -- The ways out of decode.
-use Rattle.std.proofs.Common.{◌≡◌, ℕ, List, length, Ok, Err}
+use Rattle.std.proofs.Common.{◌≡◌, ℕ, List, length, Some, None, Option, Ok, Err, ◌≤◌, refl}
+use Rattle.std.specs.Option.{ok_or}
 use Rattle.code.specs.Codes.{Scalar, Begins, Decoded, Tested}
-use Rattle.code.specs.Tails.{NoTail, TailAt}
+use Rattle.code.specs.Tails.{TailBits}
 use Rattle.code.specs.Utf8.{enc8}
 use Rattle.code.specs.declared.failure.CodeFault.{CodeFault}
 use Rattle.code.specs.declared.failure.CodeFault.TheVariants.{Unread, NoCharacter}
@@ -20,7 +21,12 @@ pub not_scalar : (v : ℕ) (e : CodeFault) → Tested v (Err e) → Scalar v →
 not_scalar v (NoCharacter p) t = t.1
 not_scalar v (Unread e) t = absurd t
 
--- a tail byte is wanting
-pub no_tail : (bs : List ℕ) (k : ℕ) (e : CodeFault) → TailAt bs k (Err e) → (NoTail bs k → NoneFirst bs) → Decoded enc8 bs (Err e)
-no_tail bs k (NoCharacter p) t f = (t.0, f t.1)
-no_tail bs k (Unread e) t f = t
+-- one of the bytes is no tail byte
+pub no_tail : (bs : List ℕ) (b : ℕ) (e : CodeFault) → TailBits b (Err e) → ((128 ≤ b → 192 ≤ b) → NoneFirst bs) → Decoded enc8 bs (Err e)
+no_tail bs b (NoCharacter p) t f = (t.0, f t.1)
+no_tail bs b (Unread e) t f = t
+
+-- there is no number, so no character either
+pub none_made : {X : Type 0} (enc : ℕ → List ℕ) (bs : List ℕ) (o : Option X) (e : CodeFault) → o ≡ None → Err e ≡ ok_or o (NoCharacter 0) → ((v : ℕ) → Scalar v → Begins enc v bs → ⊥) → Decoded enc bs (Err e)
+none_made {X} enc bs None e n h f = let q : e ≡ NoCharacter 0 = cc in rw q (refl, f)
+none_made {X} enc bs (Some x) e n h f = let z : ◌≡◌ {A = Option X} (Some x) None = n in absurd cc

@@ -20,6 +20,9 @@ pub use failure::CodeFault;
 pub use utf8::Utf8;
 pub use utf16::{BigEndian, ByteOrder, LittleEndian, Utf16, Utf16Be, Utf16Le};
 
+// The most bytes of a character.
+pub const MOST_BYTES: usize = 4;
+
 pub trait TextCode {
     // The bytes of a scalar value. What it gives to another number means nothing.
     ghost enc: { ℕ → List ℕ };
@@ -33,7 +36,7 @@ pub trait TextCode {
         ensures { result ≡ unit };
 
     // The bytes of a scalar value.
-    fn encode(v: u32) -> Result<ArrayVec<u8, 4>, CodeFault>
+    fn encode(v: u32) -> Result<ArrayVec<u8, MOST_BYTES>, CodeFault>
         ensures { Encoded enc v result };
 
     // The character whose bytes come first, and how many they are. Past the fourth byte nothing is looked at.

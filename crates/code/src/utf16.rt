@@ -9,7 +9,7 @@ ghost use Rattle.code.specs.Utf16Laws.{big_order, little_order, utf16_laws};
 use crate::bytes::bytes_of;
 use crate::failure::NO_CHARACTER;
 use crate::scalar::character;
-use crate::{CodeFault, TextCode};
+use crate::{CodeFault, MOST_BYTES, TextCode};
 use arrayvec::ArrayVec;
 use std::marker::PhantomData;
 
@@ -83,7 +83,7 @@ impl<O: ByteOrder> TextCode for Utf16<O> {
     }
 
     #[tactic(auto, unfolding(crate::specs::Utf16::enc16), using(crate::proofs::Forms16::two_wrote))]
-    fn encode(v: u32) -> Result<ArrayVec<u8, 4>, CodeFault> {
+    fn encode(v: u32) -> Result<ArrayVec<u8, MOST_BYTES>, CodeFault> {
         character(v)?;
         if let Ok(unit) = u16::try_from(v) {
             return Ok(bytes_of(O::split(unit)));
@@ -106,9 +106,7 @@ impl<O: ByteOrder> TextCode for Utf16<O> {
             return Err(NO_CHARACTER);
         };
         let trail = u32::from(O::join(c, d));
-        let Some(v) = of_pair(lead, trail) else {
-            return Err(NO_CHARACTER);
-        };
+        let v = of_pair(lead, trail).ok_or(NO_CHARACTER)?;
         Ok((character(v)?, 4))
     }
 }

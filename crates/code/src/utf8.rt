@@ -4,14 +4,14 @@
 // tail bytes of six bits each, most significant first. Where a shorter form has the room, a longer one is no character.
 ghost use Rattle.std.specs.Prelude.{◌≡◌, ◌+◌, ◌%◌};
 ghost use Rattle.code.specs.Codes.{Decoded};
-ghost use Rattle.code.specs.Tails.{Longer, TailAt};
+ghost use Rattle.code.specs.Tails.{Longer, TailBits};
 ghost use Rattle.code.specs.Utf8.{enc8};
 ghost use Rattle.code.specs.Utf8Laws.{utf8_laws};
 
 use crate::bytes::bytes_of;
 use crate::failure::NO_CHARACTER;
 use crate::scalar::character;
-use crate::{CodeFault, TextCode};
+use crate::{CodeFault, MOST_BYTES, TextCode};
 use arrayvec::ArrayVec;
 
 #[derive(Clone, Copy)]
@@ -29,7 +29,7 @@ impl TextCode for Utf8 {
     }
 
     #[tactic(auto, unfolding(crate::specs::Utf8::enc8))]
-    fn encode(v: u32) -> Result<ArrayVec<u8, 4>, CodeFault> {
+    fn encode(v: u32) -> Result<ArrayVec<u8, MOST_BYTES>, CodeFault> {
         character(v)?;
         match v {
             0..=0x7f => Ok(bytes_of([v as u8])),
@@ -67,12 +67,12 @@ fn tail(v: u32) -> u8
     0x80 + (v % 64) as u8
 }
 
-// The six bits of the tail byte at a place.
-fn tail_at(bytes: &[u8], at: usize) -> Result<u32, CodeFault>
-    ensures { TailAt bytes.now at result }
+// The six bits of a tail byte.
+fn tail_bits(b: u8) -> Result<u32, CodeFault>
+    ensures { TailBits b result }
 {
-    match bytes.get(at) {
-        Some(b @ 0x80..=0xbf) => Ok(u32::from(b - 0x80)),
+    match b {
+        0x80..=0xbf => Ok(u32::from(b - 0x80)),
         _ => Err(NO_CHARACTER),
     }
 }
@@ -83,8 +83,8 @@ fn longer(bytes: &[u8], lead: u32, count: usize, least: u32) -> Result<(char, us
     ensures { Decoded enc8 bytes.now result }
 {
     let mut v = lead;
-    for at in 1..count {
-        v = v * 64 + tail_at(bytes, at)?;
+    for b in bytes.get(1..count).ok_or(NO_CHARACTER)? {
+        v = v * 64 + tail_bits(*b)?;
     }
     if v < least {
         return Err(NO_CHARACTER);

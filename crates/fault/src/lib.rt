@@ -42,7 +42,7 @@ impl fmt::Display for Layer {
 #[derive(Clone, Copy, PartialEq, Eq, Debug)]
 pub struct Report {
     pub layer: Layer,
-    // A number and no enum: it is what is read outside, and a report with any number can be printed.
+    // A number and no enum: it is what is read outside, and a narrower type would ask more of whoever has a report printed.
     pub number: u8,
     pub place: usize,
 }

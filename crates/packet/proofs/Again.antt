@@ -1,5 +1,6 @@
 -- At most one header and one trailer stand at a place, and how long a trailer is.
 use Rattle.std.proofs.Common.{◌≡◌, ℕ, ◌+◌, ◌-◌, ◌*◌, ◌<◌, ◌≤◌, ◌==◌, nat_le, Bool, true, false, eqb, List, [], ◌∷◌, ◌++◌, length, Some, None, Option, MatchOption, codes, sym, refl, ap, ◌∙◌, subst, ap₂, inl, inr, arith, length-append}
+use Rattle.std.specs.Prelude.{max}
 use Rattle.std.specs.Bool.{then_some}
 use Rattle.std.proofs.lemmas.Bool.{eqb-true, eqb-false, leb-true, leb-false}
 use Rattle.medium.specs.Cells.{Cell}
@@ -9,7 +10,7 @@ use Rattle.text.proofs.Standing as standing
 use Rattle.packet.specs.Texts.{Header, Quote, Trailer, packet_id}
 use Rattle.packet.specs.Parts.{Closing, Ends, Marked, Named, Naming, Quoting, Then}
 use Rattle.packet.specs.Finds.{TrailerAt, mode_of}
-use Rattle.packet.specs.Examines.{EndsAt, HeaderBy}
+use Rattle.packet.specs.Examines.{EndsAt, HeaderBy, TrailerEnding}
 use Rattle.packet.specs.declared.trailer.Ending.{Ending}
 use Rattle.packet.proofs.Bodies.{first, long}
 use Rattle.packet.proofs.Headings.{header-to}
@@ -123,3 +124,8 @@ module _ (enc : ℕ → List ℕ) (unit : ℕ) (laws : Laws enc unit) (cs : List
       let n = long enc unit laws cs (mode_of w) x.0 x.1 in
       let l = x.3 in
       (omega arith, omega arith)
+
+  -- the trailer that ends at the place, from a search through the places from which one can reach it
+  pub trailer-ending : (start low end : ℕ) (r : Option Bool) → low ≡ max (end - 76) start → MatchOption r ((q : ℕ) → low ≤ q → q < end → EndsAt enc cs end q None) (λ w. (q : ℕ) × (low ≤ q) × (q < end) × EndsAt enc cs end q (Some w)) → TrailerEnding enc cs start end r
+  trailer-ending start low end (Some w) e (q, l, h, x) = (q, omega arith, x)
+  trailer-ending start low end None e n = λ w q l x. let s = trailer-size w q end x in n q (omega arith) (omega arith) w x

@@ -1,4 +1,5 @@
 pub mod Parsing
+pub mod Searching
 pub mod Closings
 pub mod Headings
 pub mod Trailings

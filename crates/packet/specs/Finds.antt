@@ -14,6 +14,11 @@ abbrev pub mode_of : Bool → ℕ
 mode_of true = 119
 mode_of false = 114
 
+-- what the letter c of a trailer says, or it is none
+abbrev pub LetterOf : ℕ → Option Bool → Type 0
+LetterOf c (Some w) = c ≡ mode_of w
+LetterOf c None = (w : Bool) → c ≢ mode_of w
+
 -- whether the cell at k holds the byte b
 abbrev pub HoldsByte : List Cell → ℕ → ℕ → Bool → Type 0
 HoldsByte cs k b true = slice_index_or cs k lost ≡ byte b

@@ -37,7 +37,7 @@ pub fn find_any<M: Medium>(m: &M) -> Result<AnyFound, PacketFault>
     }
 }
 
-// Whether the header at `a` is not above the one at `b`. One that is not there counts as above all.
+// Whether the header at `a` is not above the one at `b`. One that is not there counts as above every other.
 fn comes_first(a: Option<(usize, usize)>, b: Option<(usize, usize)>) -> bool
     ensures { IsTrue result ↔ NotAbove a b }
 {

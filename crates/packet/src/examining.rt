@@ -41,12 +41,7 @@ fn trailer_ending<C: TextCode, M: Medium>(
     ensures { TrailerEnding C.TextCode.enc text.now start end result }
 {
     let low = end.saturating_sub(MOST_TRAILER_CELLS).max(start);
-    for at in low..end {
-        if let Some(writable) = ends_at(text, at, end) {
-            return Some(writable);
-        }
-    }
-    None
+    (low..end).find_map(|at| ends_at(text, at, end))
 }
 
 // Whether the trailer at `at` lets the packet be written, if it ends at `end`.

@@ -19,7 +19,8 @@ pub fn header_at<C: TextCode, M: Medium>(text: &Text<C, M>, at: usize) -> Option
     marked_at(text, inside, quote)
 }
 
-// The quote at a place, and the place behind it. It stays a character: what it is for is to be looked for once more.
+// The quote at a place, and the place behind it. It stays a character: what it is for is to be looked for once more. (The two quotes as
+// patterns of a `match`: a `filter` with a test of them is no plainer.)
 pub(crate) fn quote_at<C: TextCode, M: Medium>(
     text: &Text<C, M>,
     at: usize,
@@ -66,7 +67,8 @@ fn id_at<C: TextCode, M: Medium>(text: &Text<C, M>, at: usize) -> Option<usize>
     close_at(text, closed, 129, false)
 }
 
-// The end of the header behind at most `left` characters and its `>`; `question` says that a `?` stands just before.
+// The end of the header behind at most `left` characters and its `>`; `question` says that a `?` stands just before. (A recursion,
+// since a loop would need the text that is read so far in its invariant; what it knows of that text is these two.)
 fn close_at<C: TextCode, M: Medium>(
     text: &Text<C, M>,
     at: usize,

@@ -5,11 +5,8 @@ ghost use Rattle.text.specs.Stands.{CharAt, Holds};
 
 use crate::Text;
 use arrayvec::ArrayVec;
-use code::{CodeFault, TextCode};
+use code::{CodeFault, MOST_BYTES, TextCode};
 use medium::Medium;
-
-// The most bytes of a character.
-const MOST_BYTES: usize = 4;
 
 impl<'m, C: TextCode, M: Medium> Text<'m, C, M> {
     // The character at a place, and how many cells hold it.
@@ -25,7 +22,7 @@ impl<'m, C: TextCode, M: Medium> Text<'m, C, M> {
 // The bytes that stand from a place on: up to the fourth, a lost cell or the end of the medium.
 #[derive(Drop)]
 struct Gathered {
-    bytes: ArrayVec<u8, 4>,
+    bytes: ArrayVec<u8, MOST_BYTES>,
     // The fault if these bytes begin with no character.
     refusal: CodeFault,
 }

@@ -6,7 +6,7 @@ use code::TextCode;
 use medium::Medium;
 use std::marker::{Model, PhantomData};
 
-// The cells of a medium, to be read in the code `C`. In contracts it is the list of the cells.
+// The cells of a medium, to be read in the code `C`. In contracts it is the list of the cells; the code is named there by its type.
 #[derive(Drop)]
 pub struct Text<'m, C: TextCode, M: Medium> {
     pub(crate) medium: &'m M,

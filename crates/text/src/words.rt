@@ -5,6 +5,7 @@ use crate::Text;
 use code::TextCode;
 use medium::Medium;
 
+// Places are numbers beside the text. With the place inside, each function would have to promise that its result is of the same text.
 impl<'m, C: TextCode, M: Medium> Text<'m, C, M> {
     // The character at a place, and the place behind it.
     pub fn step(&self, at: usize) -> Option<(char, usize)>

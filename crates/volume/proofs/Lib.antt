@@ -1,3 +1,4 @@
+pub mod Chunks
 pub mod Volumes
 pub mod Sealing
 pub mod Verdicts

@@ -4,7 +4,7 @@ use Rattle.std.specs.Int.{from_be_bytes}
 use borrow.Rule.Slice.PartMut.{put_mid}
 use Rattle.std.proofs.lemmas.Nat.{shr-shr}
 use Rattle.std.proofs.lemmas.Bool.{eq-eqb, cases_eq, cases_order}
-use Rattle.std.proofs.lemmas.List.{get_or-take, get_or-drop, get_or-set_same, get_or-set_other, ext_get_or, take-take}
+use Rattle.std.proofs.lemmas.List.{get_or-take, get_or-drop, get_or-set_same, get_or-set_other, ext_get_or}
 use Rattle.medium.specs.Cells.{byte, lost}
 use Rattle.volume.specs.Blocks.{blocks, cell_of, sound_at, stored_at, data_at, check_of, volume_cells}
 use Rattle.volume.specs.Renewed.{sealed, checked, renewed}
@@ -80,7 +80,7 @@ stored_back bs k n l h =
     joined _ _ _ _ x0 x1 x2 x3 g8 g9 g10 g11 ∙ four n h
 
 -- the check of a block as its last four bytes
-stored_last : (bs : List ℕ) (k : ℕ) (ys : List ℕ) → ys ≡ drop 508 (take 512 (drop (512 * k) bs)) → from_be_bytes w32 ys ≡ stored_at bs k
+pub stored_last : (bs : List ℕ) (k : ℕ) (ys : List ℕ) → ys ≡ drop 508 (take 512 (drop (512 * k) bs)) → from_be_bytes w32 ys ≡ stored_at bs k
 stored_last bs k ys e =
     joined _ _ _ _ _ _ _ _ (at 0 _ (omega arith) (omega arith)) (at 1 _ (omega arith) (omega arith)) (at 2 _ (omega arith) (omega arith))
     (at 3 _ (omega arith) (omega arith))
@@ -90,15 +90,6 @@ stored_last bs k ys e =
         ap (λ zs. get_or zs i 0) e ∙ get_or-drop 508 (take 512 (drop (512 * k) bs)) i 0
         ∙ get_or-take 512 (drop (512 * k) bs) (508 + i) 0 (omega arith)
         ∙ get_or-drop (512 * k) bs (508 + i) 0 ∙ ap (λ j. get_or bs j 0) q
-
--- a block that is cut before its last four bytes
-pub cut : (bs : List ℕ) (k : ℕ) (block front check : List ℕ) → 512 * k + 512 ≤ length bs → block ≡ take (512 * k + 512 - 512 * k) (drop (512 * k) bs) → front ≡ take (length block - 4) block → check ≡ drop (length block - 4) block → (from_be_bytes w32 check ≡ stored_at bs k) × (front ≡ data_at bs k)
-cut bs k block front check h e d c =
-    let n : 512 * k + 512 - 512 * k ≡ 512 = omega arith in
-    let p : block ≡ take 512 (drop (512 * k) bs) = e ∙ ap (λ n. take n (drop (512 * k) bs)) n in
-    let l : length (take 512 (drop (512 * k) bs)) ≡ 512 = simp (length-take, length-drop) (omega arith) in
-    let m : length block - 4 ≡ 508 = omega (arith, ap length p) in
-    (stored_last bs k check (c ∙ ap₂ drop m p), d ∙ ap₂ take m p ∙ take-take 508 512 (drop (512 * k) bs) (omega arith))
 
 -- blocks with the same bytes have the same data and are sound together
 data_same : (xs ys : List ℕ) (s : ℕ) → length xs ≡ length ys → ((i : ℕ) → i < 508 → get_or xs (s + i) 0 ≡ get_or ys (s + i) 0) → take 508 (drop s xs) ≡ take 508 (drop s ys)

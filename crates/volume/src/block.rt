@@ -1,5 +1,7 @@
 // Blocks and their checks.
-ghost use Rattle.std.specs.Prelude.{◌≡◌, ◌≤◌, length, ◌==◌};
+ghost use Rattle.std.specs.Prelude.{◌≡◌, ◌≤◌, length, take, drop, ◌==◌};
+ghost use Rattle.std.specs.Int.{from_be_bytes, w32};
+ghost use Rattle.std.specs.Simd.{first_chunks};
 ghost use Rattle.volume.specs.Blocks.{BlockAt, blocks, check_of, readable};
 
 // The bytes of a block.
@@ -17,6 +19,18 @@ pub struct Block {
 }
 
 impl Block {
+    // The two checks of these bytes.
+    fn of(bytes: &[u8; BLOCK_BYTES]) -> Block
+        ensures stored { result.stored ≡ from_be_bytes w32 (drop 508 bytes.now) }
+        ensures due { result.due ≡ check_of (take 508 bytes.now) }
+    {
+        let (data, check) = bytes.split_last_chunk().unwrap();
+        Block {
+            stored: u32::from_be_bytes(*check),
+            due: weigh(data),
+        }
+    }
+
     // Whether the block's cells can be read.
     pub fn is_sound(&self) -> bool
         ensures { result ≡ (self.now.stored == self.now.due) }
@@ -45,26 +59,28 @@ pub fn data_check(block: &[u8; DATA_BYTES]) -> u32
     weigh(block)
 }
 
+// The blocks that count.
+fn counted(bytes: &[u8]) -> &[[u8; BLOCK_BYTES]]
+    ensures items { result.now ≡ first_chunks 512 (blocks bytes.now) bytes.now }
+    ensures count { length result.now ≡ blocks bytes.now }
+{
+    let (whole, _) = bytes.as_chunks();
+    &whole[..whole.len().min(MOST_BLOCKS)]
+}
+
 // How many blocks count.
 pub fn block_count(bytes: &[u8]) -> usize
     ensures { result ≡ blocks bytes.now }
 {
-    (bytes.len() / BLOCK_BYTES).min(MOST_BLOCKS)
+    counted(bytes).len()
 }
 
-// The two checks of block `k`, if that block counts. (Bytes and number stay two parameters: a view of both would be made and taken
-// apart at each call, and `renew` would want a second one that may write.)
+// The two checks of block `k`, if that block counts. (Bytes and a number, since that is what every caller has: the flags of a volume
+// and a survey go by the number, and `renew` writes by it.)
 pub fn block_at(bytes: &[u8], k: usize) -> Option<Block>
     ensures { BlockAt bytes.now k result }
 {
-    if k >= block_count(bytes) {
-        return None;
-    }
-    let start = BLOCK_BYTES * k;
-    let (data, check) = bytes[start..start + BLOCK_BYTES].split_last_chunk()?;
-    let stored = u32::from_be_bytes(*check);
-    let due = weigh(data);
-    Some(Block { stored, due })
+    counted(bytes).get(k).map(Block::of)
 }
 
 // Whether block `k` counts and is sound, so that its cells can be read.

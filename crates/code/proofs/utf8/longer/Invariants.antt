@@ -1,6 +1,6 @@
 -- The tail bytes before the place have been read.
-use Rattle.code.proofs.Forms8.{Read}
+use Rattle.code.proofs.Forms8.{Behind, Bits}
 use Rattle.code.proofs.utf8.longer.Given as goal
 
-abbrev pub invariant-loop-at : goal.invariant-loop-at
-invariant-loop-at l = Read l.bytes l.lead l.at l.v
+abbrev pub invariant-loop-b : goal.invariant-loop-b
+invariant-loop-b l = Behind l.bytes l.count l.b-items × Bits l.bytes l.lead l.b-index l.v

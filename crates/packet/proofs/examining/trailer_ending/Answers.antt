@@ -1,20 +1,13 @@
-use Rattle.std.proofs.Common.{◌≡◌, ℕ, Some, subst, ⊎_elim, arith}
-use Rattle.std.proofs.lemmas.Bool.{cases_lt}
-use Rattle.packet.specs.Finds.{mode_of}
-use Rattle.packet.specs.Parts.{Ends}
-use Rattle.packet.specs.Texts.{Trailer}
-use Rattle.packet.proofs.Again.{trailer-size}
+use Rattle.std.proofs.Common.{subst, rules}
+use Rattle.std.specs.Iterator.Runs.{ItemsCountUp}
+use Rattle.std.proofs.iter.runs.Sources.{range_runs}
+use Rattle.packet.specs.Examines.{EndsAt}
+use Rattle.packet.proofs.Again.{trailer-ending}
+use Rattle.packet.proofs.Searching.{searched}
 use Rattle.packet.proofs.examining.trailer_ending.Goals as goal
 
-pub loop-at-preserved : goal.loop-at-preserved
-loop-at-preserved g c = λ p low high w x.
-    ⊎_elim (λ h. c.loop-at.invariant p low h w x)
-    (λ h.
-    let same : p ≡ c.loop-at.at = omega arith in
-    c.in_default.ensures w (subst (λ (k : ℕ). Ends g.C.TextCode.enc c.args.text.now (Trailer (mode_of w)) k (Some c.args.end)) same x))
-    (cases_lt p c.loop-at.at)
-
 pub returns : goal.returns
-returns g c = λ w q h x.
-    let s = trailer-size g.C.TextCode.enc g.C.TextCode.unit g.C.TextCode.laws c.args.text.now w q c.args.end x in
-    c.loop-at.invariant q (omega arith) (omega arith) w x
+returns g c =
+    let end = c.args.end in
+    let found = searched _ _ _ c.max-low.result end (EndsAt g.C.TextCode.enc c.args.text.now end) (λ p e. subst (λ r. ItemsCountUp p r.start r.end) e (range_runs p p.seen)) (λ x r h k. (search rules, search rules)) c.find_map.result c.find_map.ensures.runs in
+    trailer-ending g.C.TextCode.enc g.C.TextCode.unit g.C.TextCode.laws c.args.text.now c.args.start c.max-low.result end c.find_map.result (search rules) found

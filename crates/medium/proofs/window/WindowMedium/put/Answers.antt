@@ -3,13 +3,6 @@ use Rattle.medium.specs.Cells.{window}
 use Rattle.medium.proofs.Windows as win
 use Rattle.medium.proofs.window.WindowMedium.put.Goals as goal
 
-pub overflow_add-self : goal.overflow_add-self
-overflow_add-self g c =
-    let w = c.args.self.now in
-    let e = win.size w.from w.len (g.M.Medium.cells w.inner) in
-    let b = g.M.Medium.bounded w.inner in
-    omega arith
-
 pub returns : goal.returns
 returns g c =
     let w = c.args.self.now in

@@ -14,7 +14,7 @@ pub enum CodeFault {
     NoCharacter { place: usize },
 }
 
-// What encode and decode refuse with: their own input is all that they know, and the place is its first.
+// What encode and decode refuse with: their own input is all that they know, and the place is its first, by docs/text-codes.md.
 pub(crate) const NO_CHARACTER: CodeFault = CodeFault::NoCharacter { place: 0 };
 
 impl From<MediumFault> for CodeFault {

@@ -26,8 +26,8 @@ fn timed<T: Drop, F: FnOnce() -> T>(rt: &HostRuntime, work: F) -> io::Result<(T,
 
 // How many bytes equal `b`: the plain loop.
 //
-// It stays a loop because every figure of docs/benchmarks.md is a ratio to it: as a chain of filter and count it would be another
-// yardstick (14.1 ms for 20 rounds over bytes 0x3c, and 15.4 so).
+// It stays a loop by the method of docs/benchmarks.md, where every figure is a ratio to a plain loop. (As a chain of filter and count it
+// took 14.1 ms for 20 rounds over bytes 0x3c, and 15.4 as a loop.)
 fn count(bytes: &[u8], b: u8) -> u64 {
     let mut n: u64 = 0;
     for x in bytes {

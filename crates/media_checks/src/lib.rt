@@ -24,8 +24,8 @@ pub fn put_flat(bytes: &mut [u8], at: usize, b: u8) -> Result<(), MediumFault>
     Flat::new(bytes).put(at, b)
 }
 
-// Through a reel volume. (Not one generic function with `put_flat`: a type parameter for the medium names the loan's lifetime, and
-// then no contract can say what the bytes are after the call.)
+// Through a reel volume. (Tried as one generic function with `put_flat`, and the proof didn't close: a type parameter for the medium
+// names the loan's lifetime, and then there is no value of the bytes after the call.)
 pub fn put_reel(bytes: &mut [u8], at: usize, b: u8) -> Result<(), MediumFault>
     ensures put { Put (volume_cells bytes.old) at b (volume_cells bytes.new) result }
 {

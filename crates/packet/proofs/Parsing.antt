@@ -1,5 +1,7 @@
 -- Texts that are made of parts, looked for part by part.
-use Rattle.std.proofs.Common.{◌≡◌, ℕ, ◌+◌, ◌-◌, ◌≤◌, Bool, true, eqb, ◌≢◌, ◌⊎◌, List, [], ◌∷◌, ◌++◌, length, Some, None, Option, sym, refl, ap, ◌∙◌, subst, inl, inr, ⊎_elim, arith, length-append}
+use Rattle.std.proofs.Common.{◌≡◌, ℕ, ◌+◌, ◌-◌, ◌≤◌, Bool, true, false, eqb, ◌==◌, ◌||◌, ◌≢◌, ◌⊎◌, List, [], ◌∷◌, ◌++◌, length, Some, None, Option, MatchOption, sym, refl, ap, ◌∙◌, subst, inl, inr, ⊎_elim, arith, length-append}
+use Rattle.std.specs.Bool.{then_some}
+use Rattle.std.proofs.lemmas.Bool.{eqb-true, eqb-false}
 use Rattle.std.proofs.lemmas.List.{append-nil}
 use Rattle.medium.specs.Cells.{Cell}
 use Rattle.code.specs.Codes.{Scalar, Laws}
@@ -52,6 +54,21 @@ module _ (read : Reading) where
   -- where the word does not stand
   pub without : (w : List ℕ) (P : List ℕ → Type 0) (k : ℕ) → WordAt enc cs k w None → Ends enc cs (Then w P) k None
   without w P k n = λ t x st. n (standing.stands_front enc unit laws cs k w x.0 (subst (Stands enc cs k) x.2 st))
+
+  scalar : (q : ℕ) → Quote q → Scalar q
+  scalar q x = (omega arith, λ h. omega arith)
+
+  -- the character that stands at a place, taken if it is a quote
+  pub quote-from_step : (k : ℕ) (a r : Option (ℕ × ℕ)) → Stepped enc cs k a → MatchOption a (r ≡ None) (λ x. r ≡ then_some ((x.0 == 34) || (x.0 == 39)) x) → QuoteAt enc cs k r
+  quote-from_step k None r n e = rw e (λ q isq h. n q (scalar q isq) h)
+  quote-from_step k (Some x) r s e = rw e (by (x.0 == 34) (x.0 == 39) refl refl)
+    where
+      by : (a b : Bool) → (x.0 == 34) ≡ a → (x.0 == 39) ≡ b → QuoteAt enc cs k (then_some (a || b) x)
+      by true b p q = (inl (eqb-true x.0 34 p), s.0, s.1, s.2)
+      by false true p q = (inr (eqb-true x.0 39 q), s.0, s.1, s.2)
+      by false false p q = λ c isq h.
+          let same : x.0 ≡ c = standing.only enc unit laws cs k x.0 c s.0 (scalar c isq) s.1 h in
+          ⊎_elim (λ e. eqb-false x.0 34 p (same ∙ e)) (λ e. eqb-false x.0 39 q (same ∙ e)) isq
 
   -- behind a quote that stands
   pub quoted : (P : ℕ → List ℕ → Type 0) (k q e : ℕ) (r : Option ℕ) → QuoteAt enc cs k (Some (q, e)) → Ends enc cs (P q) e r → Ends enc cs (Quoting P) k r

@@ -40,7 +40,7 @@ impl<C: TextCode> Found<C> {
 pub fn find<C: TextCode, M: Medium>(text: &Text<C, M>) -> Result<Found<C>, PacketFault>
     ensures { MatchResult result (λ f. PacketAt C.TextCode.enc text.now C.TextCode.unit f.extent.place f.extent.len f.writable) (NoPacket C.TextCode.enc text.now C.TextCode.unit) }
 {
-    // That none stands anywhere is told of place 0: a report has a place always.
+    // That none stands anywhere is told of place 0, by docs/refusals.md.
     let (place, start) = first_header(text).ok_or(PacketFault::NoHeader { place: 0 })?;
     let Ending { writable, end } = first_trailer(text, place, start)?;
     let extent = Extent {

@@ -7,14 +7,15 @@ use code::TextCode;
 use medium::Medium;
 use text::Text;
 
-// The place of the lowest header, and the place behind it. No character is decoded at a place whose byte cannot begin a header.
+// The place of the lowest header, and the place behind it: a pair, which each caller takes apart at once. No character is decoded at a
+// place whose byte cannot begin a header.
 pub fn first_header<C: TextCode, M: Medium>(text: &Text<C, M>) -> Option<(usize, usize)>
     ensures first { FirstHeader C.TextCode.enc text.now C.TextCode.unit result }
     ensures inside { IfSome result (λ x. x.0 < 1048576) }
 {
     let lead = lead_byte::<C>();
     // The medium itself, since this loop goes over all cells: through the text a turn takes half as long again. And a `for`: by
-    // `find_map` over the same range twenty passes over a million cells take 20.5 to 27.3 ms, and so 13.7 (docs/benchmarks.md).
+    // `find_map` over the same range twenty passes over a million cells take 20.5 to 27.3 ms, and 13.7 as a `for` (docs/benchmarks.md).
     let medium = text.medium();
     for at in 0..text.size() {
         if holds_byte(medium, at, lead) {

@@ -19,19 +19,14 @@ pub fn header_at<C: TextCode, M: Medium>(text: &Text<C, M>, at: usize) -> Option
     marked_at(text, inside, quote)
 }
 
-// The quote at a place, and the place behind it. It stays a character: what it is for is to be looked for once more. (The two quotes as
-// patterns of a `match`: a `filter` with a test of them is no plainer.)
+// The quote at a place, and the place behind it. It stays a character: what it is for is to be looked for once more.
 pub(crate) fn quote_at<C: TextCode, M: Medium>(
     text: &Text<C, M>,
     at: usize,
 ) -> Option<(char, usize)>
     ensures { QuoteAt C.TextCode.enc text.now at result }
 {
-    let (c, behind) = text.step(at)?;
-    match c {
-        '"' | '\'' => Some((c, behind)),
-        _ => None,
-    }
+    text.step(at).filter(|(c, _)| *c == '"' || *c == '\'')
 }
 
 // The header from its mark on.
@@ -67,8 +62,8 @@ fn id_at<C: TextCode, M: Medium>(text: &Text<C, M>, at: usize) -> Option<usize>
     close_at(text, closed, 129, false)
 }
 
-// The end of the header behind at most `left` characters and its `>`; `question` says that a `?` stands just before. (A recursion,
-// since a loop would need the text that is read so far in its invariant; what it knows of that text is these two.)
+// The end of the header behind at most `left` characters and its `>`; `question` says that a `?` stands just before. (A recursion: as a
+// loop it would be no plainer, since its invariant would have to hold the text read so far, of which these two are all that is known.)
 fn close_at<C: TextCode, M: Medium>(
     text: &Text<C, M>,
     at: usize,

@@ -3,7 +3,8 @@ ghost use Rattle.tree.specs.Faults.{told_tree};
 
 use fault::{Fault, Layer, Report};
 
-// The step is the one at fault, counted from 1, or 0 where only the value is: the number is the place of the report as it is told.
+// The step is the one at fault, counted from 1, or 0 where only the value is or the path has none: by docs/refusals.md that number is
+// the place of the report.
 #[derive(Clone, Copy, PartialEq, Eq, Debug)]
 pub enum TreeFault {
     // A character that XML does not allow, in the namespace of a step or in the value.

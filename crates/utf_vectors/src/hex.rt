@@ -1,7 +1,7 @@
 // Bytes as text.
 use std::fmt;
 
-// Each byte as two hexadecimal digits, with a space between.
+// Each byte as two hexadecimal digits, with a space between. (What it writes is compared with a stored text, and not stated.)
 #[derive(Clone, Copy)]
 pub struct Hex<'a>(pub &'a [u8]);
 

@@ -1,14 +1,17 @@
 -- What is found of the checks.
-use Rattle.std.proofs.Common.{◌≡◌, ℕ, zero, suc, ◌+◌, ◌<◌, Bool, false, cond, eqb, ltb, ◌==◌, Some, None, Option, List, [], ◌∷◌, map, get_or, sym, refl, ap, ◌∙◌, ap₂, subst, zero-add, arith}
+use Rattle.std.proofs.Common.{◌≡◌, ℕ, zero, suc, ◌+◌, ◌*◌, ◌/◌, ◌%◌, ◌<◌, Bool, false, cond, eqb, ltb, ◌==◌, Some, None, Option, List, [], ◌∷◌, map, length, get_or, sym, refl, ap, ◌∙◌, ap₂, subst, zero-add, arith}
 use Rattle.std.specs.List.{range_with_len}
 use Rattle.std.specs.Array.{IsFromFnResult, IsFromFnResultFrom}
 use Rattle.std.specs.Fn.{Called}
 use Rattle.std.specs.Option.{MatchOption}
 use Rattle.volume.specs.declared.block.Block.{Block}
 use denote.Param.Members.{Mut}
-use Rattle.std.proofs.lemmas.List.FromFn.{get_or-map-range_with_len, fill_by_all}
+use Rattle.std.proofs.lemmas.List.FromFn.{length-map-range_with_len, get_or-map-range_with_len, fill_by_all}
 use Rattle.std.proofs.lemmas.Bool.{lt-ltb, le-ltb}
-use Rattle.volume.specs.Blocks.{BlockAt, blocks, readable, sound_at, verdicts}
+use Rattle.medium.specs.Cells.{byte, lost}
+use Rattle.volume.specs.Blocks.{BlockAt, blocks, cell_of, readable, sound_at, verdicts, volume_cells}
+use Rattle.volume.specs.Seen.{seen, seen_at}
+use Rattle.volume.proofs.Volumes.{within}
 
 pub at : (f : List Bool) (bs : List ℕ) (k : ℕ) → f ≡ verdicts bs → k < blocks bs → get_or f k false ≡ sound_at bs k
 unfolding verdicts
@@ -16,6 +19,14 @@ at f bs k e h =
     ap (λ f. get_or f k false) e
     ∙ get_or-map-range_with_len (readable bs) 0 2048 k k false (omega arith) (zero-add k)
     ∙ ap (λ b. cond b (sound_at bs k) false) (lt-ltb k (blocks bs) h)
+
+-- with flags that are true of its bytes a volume shows the cells that it has
+pub shown : (f : List Bool) (bs : List ℕ) → f ≡ verdicts bs → seen f bs ≡ volume_cells bs
+unfolding seen volume_cells
+shown f bs e =
+    fill_by_all (cell_of bs) (seen f bs) (508 * blocks bs) lost (length-map-range_with_len (seen_at f bs) 0 (508 * blocks bs))
+    (λ p h. get_or-map-range_with_len (seen_at f bs) 0 (508 * blocks bs) p p lost h (zero-add p)
+    ∙ ap (λ b. cond b (byte (get_or bs (512 * (p / 508) + p % 508) 0)) lost) (at f bs (p / 508) e (within (length bs) p h).0))
 
 -- whether a block counts and is sound, by its two checks
 pub judged : (bs : List ℕ) (k : ℕ) (o : Option Block) (r : Bool) → BlockAt bs k o → MatchOption o (r ≡ false) (λ b. r ≡ (b.stored == b.due)) → r ≡ readable bs k

@@ -1,11 +1,16 @@
--- What a put leaves alone besides the cells of a volume.
-use Rattle.std.specs.Prelude.{◌≡◌, ℕ, ◌/◌, false, length, slice_index, slice_index_or}
+-- What a put leaves alone besides the cells of a volume. It is said of the parts that matter, whatever has them, and so of volumes.
+use Rattle.std.specs.Prelude.{◌≡◌, ℕ, ◌/◌, Bool, false, List, length, slice_index, slice_index_or}
+use Rattle.volume.specs.Blocks.{verdicts}
 use Rattle.volume.specs.declared.reel.Volume.{Volume}
 
--- what no put alters: the loan (by the name that the logic gives it), which blocks are sound, how many bytes there are, and each
--- byte that belongs to no sound block
-pub record VolumeKept (v w : Volume) : Type 0 where
-  pub lent : w.bytes.ghost_name ≡ v.bytes.ghost_name
-  pub judged : w.sound ≡ v.sound
-  pub size : length w.bytes.now ≡ length v.bytes.now
-  pub unread : (q : ℕ) → slice_index_or v.sound (q / 512) false ≡ false → slice_index w.bytes.now q ≡ slice_index v.bytes.now q
+-- what no put alters: the loan (by the name that the logic gives it), which blocks are sound, that this is true of the bytes,
+-- how many bytes there are, and each byte that belongs to no sound block
+pub record VolumePartsKept (loan : ℕ) (sound : List Bool) (bs : List ℕ) (loan' : ℕ) (sound' : List Bool) (bs' : List ℕ) : Type 0 where
+  pub lent : loan' ≡ loan
+  pub judged : sound' ≡ sound
+  pub truthful : sound ≡ verdicts bs → sound' ≡ verdicts bs'
+  pub size : length bs' ≡ length bs
+  pub unread : (q : ℕ) → slice_index_or sound (q / 512) false ≡ false → slice_index bs' q ≡ slice_index bs q
+
+abbrev pub VolumeKept : Volume → Volume → Type 0
+VolumeKept v w = VolumePartsKept v.bytes.ghost_name v.sound v.bytes.now w.bytes.ghost_name w.sound w.bytes.now

@@ -1,4 +1,5 @@
 pub mod Blocks
 pub mod Renewed
+pub mod Seen
 pub mod Kept
 pub mod Laws

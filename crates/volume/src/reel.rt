@@ -15,7 +15,7 @@ pub struct Volume<'a> {
     // A flag for each block that may count, beside the bytes and in fixed memory: the engine allocates nothing.
     sound: [bool; MOST_BLOCKS],
     // The flags say which blocks count and are sound.
-    ghost truthful: { sound ≡ verdicts bytes.now },
+    pub ghost truthful: { sound ≡ verdicts bytes.now },
 }
 
 impl<'a> Volume<'a> {

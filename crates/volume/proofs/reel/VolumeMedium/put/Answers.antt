@@ -19,5 +19,11 @@ returns c =
     let e = vol.size v.bytes.now in
     record {
       put = (omega arith, byte_not_lost _ _ (vol.whole v.bytes.now c.args.at c.in_ok-k.k p.0 p.1 p.2), a.cells);
-      kept = record { lent = refl; judged = refl; size = a.size; unread = λ q u. a.unread q (ap (λ f. get_or f (q / 512) false) (sym v.truthful) ∙ u) };
+      kept = record {
+        lent = refl;
+        judged = refl;
+        truthful = λ e. e ∙ sym a.judged;
+        size = a.size;
+        unread = λ q u. a.unread q (ap (λ f. get_or f (q / 512) false) (sym v.truthful) ∙ u);
+      };
     }

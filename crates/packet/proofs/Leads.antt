@@ -1,5 +1,6 @@
 -- The byte that every header begins with.
-use Rattle.std.proofs.Common.{◌≡◌, ℕ, ◌≤◌, ◌≢◌, List, length, get_or, drop, None, codes, sym, ap, ◌∙◌, arith}
+use Rattle.std.proofs.Common.{◌≡◌, ℕ, ◌<◌, ◌≤◌, ◌≢◌, List, length, get_or, drop, None, codes, sym, ap, ◌∙◌, subst, ⊎_elim, arith}
+use Rattle.std.proofs.lemmas.Bool.{cases_lt}
 use native.Mathlib.Numerals.{unary_clauses}
 use Rattle.std.proofs.lemmas.List.{get_or-drop, get_or-map, get_or_past, get_or-take}
 use Rattle.medium.specs.Access.{Refuses}
@@ -37,3 +38,10 @@ module _ (enc : ℕ → List ℕ) (unit : ℕ) (laws : Laws enc unit) (cs : List
       parse.renamed read (Heading unit) (Header unit) k None (header-from unit) (header-to unit)
       (parse.without read (codes "<?xpacket begin=") (Quoting (Marked unit)) k
       (λ st. n (cell_at cs k (enc 60) (laws.some 60 less) (stands_head enc unit laws cs k 60 (codes "?xpacket begin=") st))))
+
+  -- a search goes from `from` to the next place that holds that byte, and no header stands before that place
+  pub skipped : (ds : List Cell) (b from n : ℕ) → ds ≡ cs → b ≡ get_or (enc 60) 0 0 → ((j : ℕ) → j < from → Ends enc cs (Header unit) j None) → ((j : ℕ) → from ≤ j → j < n → get_or ds j lost ≢ byte b) → (j : ℕ) → j < n → Ends enc cs (Header unit) j None
+  skipped ds b from n same lead before gap j h =
+      ⊎_elim (λ l. before j l)
+      (λ l. elsewhere j (subst (λ (es : List Cell). get_or es j lost ≢ byte (get_or (enc 60) 0 0)) same (subst (λ (x : ℕ). get_or ds j lost ≢ byte x) lead (gap j l h))))
+      (cases_lt j from)

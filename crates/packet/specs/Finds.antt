@@ -24,6 +24,11 @@ abbrev pub HoldsByte : List Cell → ℕ → ℕ → Bool → Type 0
 HoldsByte cs k b true = slice_index_or cs k lost ≡ byte b
 HoldsByte cs k b false = slice_index_or cs k lost ≢ byte b
 
+-- the first place from `from` on whose cell holds the byte b, or there is none
+abbrev pub NextByte : List Cell → ℕ → ℕ → Option ℕ → Type 0
+NextByte cs from b (Some k) = (from ≤ k) × (k < length cs) × HoldsByte cs k b true × ((j : ℕ) → from ≤ j → j < k → HoldsByte cs j b false)
+NextByte cs from b None = (j : ℕ) → from ≤ j → HoldsByte cs j b false
+
 module _ (enc : ℕ → List ℕ) (cs : List Cell) where
   -- the lowest place at which a header stands, and the place behind that header
   abbrev pub FirstHeader : ℕ → Option (ℕ × ℕ) → Type 0

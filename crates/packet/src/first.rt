@@ -1,6 +1,6 @@
 // The lowest place at which a header stands.
 ghost use Rattle.std.specs.Prelude.{◌≡◌, ◌<◌, IfSome, slice_index};
-ghost use Rattle.packet.specs.Finds.{FirstHeader, HoldsByte};
+ghost use Rattle.packet.specs.Finds.{FirstHeader, HoldsByte, NextByte};
 
 use crate::header::header_at;
 use code::TextCode;
@@ -14,15 +14,13 @@ pub fn first_header<C: TextCode, M: Medium>(text: &Text<C, M>) -> Option<(usize,
     ensures inside { IfSome result (λ x. x.0 < 1048576) }
 {
     let lead = lead_byte::<C>();
-    // The medium itself, since this loop goes over all cells: through the text a turn takes half as long again. And a `for`: by
-    // `find_map` over the same range twenty passes over a million cells take 20.5 to 27.3 ms, and 13.7 as a `for` (docs/benchmarks.md).
     let medium = text.medium();
-    for at in 0..text.size() {
-        if holds_byte(medium, at, lead) {
-            if let Some(end) = header_at(text, at) {
-                return Some((at, end));
-            }
+    let mut from = 0;
+    while let Some(at) = next_byte(medium, from, lead) {
+        if let Some(end) = header_at(text, at) {
+            return Some((at, end));
         }
+        from = at + 1;
     }
     None
 }
@@ -33,6 +31,19 @@ fn lead_byte<C: TextCode>() -> u8
 {
     let code = C::encode(0x3c).unwrap();
     code[0]
+}
+
+// The first place from `from` on whose cell holds `b`. This loop goes over all cells and is a function of its own: with a call of
+// `header_at` in it, each turn would load the medium's parts anew, and take half as long again (docs/benchmarks.md).
+fn next_byte<M: Medium>(m: &M, from: usize, b: u8) -> Option<usize>
+    ensures { NextByte (M.Medium.cells m.now) from b result }
+{
+    for at in from..m.size() {
+        if holds_byte(m, at, b) {
+            return Some(at);
+        }
+    }
+    None
 }
 
 fn holds_byte<M: Medium>(m: &M, at: usize, b: u8) -> bool

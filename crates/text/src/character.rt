@@ -6,7 +6,7 @@ ghost use Rattle.text.specs.Stands.{CharAt, Holds};
 use crate::Text;
 use arrayvec::ArrayVec;
 use code::{CodeFault, MOST_BYTES, TextCode};
-use medium::Medium;
+use medium::{Medium, MediumFault};
 
 impl<'m, C: TextCode, M: Medium> Text<'m, C, M> {
     // The character at a place, and how many cells hold it.
@@ -32,9 +32,17 @@ fn gather<M: Medium>(m: &M, at: usize) -> Gathered
     ensures ended { Ended (M.Medium.cells m.now) at (length result.bytes.items) result.refusal }
 {
     let mut bytes = ArrayVec::new();
-    for place in at..m.size().min(at.saturating_add(MOST_BYTES)) {
-        match m.fetch(place) {
+    let ended = CodeFault::NoCharacter { place: at };
+    // Always up to four turns, and the medium says where it ends: a count that is known keeps the vector out of memory.
+    for i in 0..MOST_BYTES {
+        match m.fetch(at.saturating_add(i)) {
             Ok(b) => bytes.push(b),
+            Err(MediumFault::OutOfRange { place: _ }) => {
+                return Gathered {
+                    bytes,
+                    refusal: ended,
+                };
+            }
             Err(e) => {
                 return Gathered {
                     bytes,
@@ -45,6 +53,6 @@ fn gather<M: Medium>(m: &M, at: usize) -> Gathered
     }
     Gathered {
         bytes,
-        refusal: CodeFault::NoCharacter { place: at },
+        refusal: ended,
     }
 }

@@ -81,7 +81,8 @@ impl<'a> Medium for Volume<'a> {
 
     fn fetch(&self, at: usize) -> Result<u8, MediumFault> {
         let k = self.sound_block(at)?;
-        Ok(self.bytes[BLOCK_BYTES * k + at % DATA_BYTES])
+        // The checks of the k blocks before it stand between. (By its number within the block a fetch would divide once more.)
+        Ok(self.bytes[at + (BLOCK_BYTES - DATA_BYTES) * k])
     }
 
     fn put(&mut self, at: usize, b: u8) -> Result<(), MediumFault> {

@@ -3,7 +3,7 @@ ghost use Rattle.std.specs.Prelude.{◌↔◌, IsTrue, MatchResult};
 ghost use Rattle.packet.specs.Any.{FoundAny, NoneInAny, NotAbove};
 
 use crate::PacketFault;
-use crate::finding::{Found, find};
+use crate::finding::{Found, found_behind};
 use crate::first::first_header;
 use code::{Utf8, Utf16Be, Utf16Le};
 use medium::Medium;
@@ -29,11 +29,11 @@ pub fn find_any<M: Medium>(m: &M) -> Result<AnyFound, PacketFault>
     let big = first_header(&in_big);
     let little = first_header(&in_little);
     if comes_first(utf8, big) && comes_first(utf8, little) {
-        find(&in_utf8).map(AnyFound::InUtf8)
+        found_behind(&in_utf8, utf8).map(AnyFound::InUtf8)
     } else if comes_first(big, little) {
-        find(&in_big).map(AnyFound::InUtf16Be)
+        found_behind(&in_big, big).map(AnyFound::InUtf16Be)
     } else {
-        find(&in_little).map(AnyFound::InUtf16Le)
+        found_behind(&in_little, little).map(AnyFound::InUtf16Le)
     }
 }
 

@@ -1,6 +1,6 @@
 // Finding a packet.
-ghost use Rattle.std.specs.Prelude.{◌≡◌, MatchResult};
-ghost use Rattle.packet.specs.Finds.{NoPacket, OneAnswer, PacketAt};
+ghost use Rattle.std.specs.Prelude.{◌≡◌, ◌<◌, IfSome, MatchResult};
+ghost use Rattle.packet.specs.Finds.{FirstHeader, NoPacket, OneAnswer, PacketAt};
 
 use crate::PacketFault;
 use crate::body::first_trailer;
@@ -40,8 +40,20 @@ impl<C: TextCode> Found<C> {
 pub fn find<C: TextCode, M: Medium>(text: &Text<C, M>) -> Result<Found<C>, PacketFault>
     ensures { MatchResult result (λ f. PacketAt C.TextCode.enc text.now C.TextCode.unit f.extent.place f.extent.len f.writable) (NoPacket C.TextCode.enc text.now C.TextCode.unit) }
 {
+    found_behind(text, first_header(text))
+}
+
+// The packet with the lowest header, which has been looked for: its place, and the place behind it.
+pub(crate) fn found_behind<C: TextCode, M: Medium>(
+    text: &Text<C, M>,
+    header: Option<(usize, usize)>,
+) -> Result<Found<C>, PacketFault>
+    requires first { FirstHeader C.TextCode.enc text.now C.TextCode.unit header }
+    requires inside { IfSome header (λ x. x.0 < 1048576) }
+    ensures { MatchResult result (λ f. PacketAt C.TextCode.enc text.now C.TextCode.unit f.extent.place f.extent.len f.writable) (NoPacket C.TextCode.enc text.now C.TextCode.unit) }
+{
     // That none stands anywhere is told of place 0, by docs/refusals.md.
-    let (place, start) = first_header(text).ok_or(PacketFault::NoHeader { place: 0 })?;
+    let (place, start) = header.ok_or(PacketFault::NoHeader { place: 0 })?;
     let Ending { writable, end } = first_trailer(text, place, start)?;
     let extent = Extent {
         place,

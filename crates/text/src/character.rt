@@ -33,9 +33,15 @@ fn gather<M: Medium>(m: &M, at: usize) -> Gathered
 {
     let mut bytes = ArrayVec::new();
     let ended = CodeFault::NoCharacter { place: at };
-    // Always up to four turns, and the medium says where it ends: a count that is known keeps the vector out of memory.
+    if at >= m.size() {
+        return Gathered {
+            bytes,
+            refusal: ended,
+        };
+    }
+    // The medium says where it ends: with its size in the range, a character takes half as many instructions again, or more.
     for i in 0..MOST_BYTES {
-        match m.fetch(at.saturating_add(i)) {
+        match m.fetch(at + i) {
             Ok(b) => bytes.push(b),
             Err(MediumFault::OutOfRange { place: _ }) => {
                 return Gathered {

@@ -17,8 +17,8 @@ returns-then-comes_first-2 g c =
     let l = c.first_header-little.result in
     let first = firsts cs _ _ _ a b l c.new-in_utf8.ensures c.new-in_big.ensures c.new-in_little.ensures c.first_header-utf8.ensures.first c.first_header-big.ensures.first c.first_header-little.ensures.first in
     let low = leasts a b l a (same a) (search rules) (search rules) in
-    handed_on c.find.result c.map.result (λ f. InUtf8 f) _ _ (FoundAny cs) (NoneInAny cs)
-    (subst (λ s. MatchResult c.find.result (λ f. PacketAt enc8 s 1 f.extent.place f.extent.len f.writable) (NoPacket enc8 s 1)) c.new-in_utf8.ensures c.find.ensures)
+    handed_on c.found_behind.result c.map.result (λ f. InUtf8 f) _ _ (FoundAny cs) (NoneInAny cs)
+    (subst (λ s. MatchResult c.found_behind.result (λ f. PacketAt enc8 s 1 f.extent.place f.extent.len f.writable) (NoPacket enc8 s 1)) c.new-in_utf8.ensures c.found_behind.ensures)
     (search rules)
     (λ f p. found cs (each a b l) first utf8 low f.extent.place f.extent.len f.writable p)
     (none cs (each a b l) first utf8 low)
@@ -36,8 +36,8 @@ returns-then-comes_first-3 g c =
       | else-comes_first-via-else-comes_first w ↦ inl (λ h. false≢true (sym w.if-comes_first.false ∙ c.comes_first.ensures.1 h))
     ] in
     let low = leasts a b l b (below_third b a b l (same b) beside other) (same b) beside in
-    handed_on c.find-then-comes_first-3.result c.map-then-comes_first-3.result (λ f. InUtf16Be f) _ _ (FoundAny cs) (NoneInAny cs)
-    (subst (λ s. MatchResult c.find-then-comes_first-3.result (λ f. PacketAt (enc16 big_pair) s 2 f.extent.place f.extent.len f.writable) (NoPacket (enc16 big_pair) s 2)) c.new-in_big.ensures c.find-then-comes_first-3.ensures)
+    handed_on c.found_behind-then-comes_first-3.result c.map-then-comes_first-3.result (λ f. InUtf16Be f) _ _ (FoundAny cs) (NoneInAny cs)
+    (subst (λ s. MatchResult c.found_behind-then-comes_first-3.result (λ f. PacketAt (enc16 big_pair) s 2 f.extent.place f.extent.len f.writable) (NoPacket (enc16 big_pair) s 2)) c.new-in_big.ensures c.found_behind-then-comes_first-3.ensures)
     (search rules)
     (λ f p. found cs (each a b l) first utf16be low f.extent.place f.extent.len f.writable p)
     (none cs (each a b l) first utf16be low)
@@ -55,8 +55,8 @@ returns-else-comes_first-3 g c =
       | else-comes_first-via-else-comes_first w ↦ inl (λ h. false≢true (sym w.if-comes_first.false ∙ c.comes_first.ensures.1 h))
     ] in
     let low = leasts a b l l (below_third l a b l beside (same l) other) beside (same l) in
-    handed_on c.find-else-comes_first-3.result c.map-else-comes_first-3.result (λ f. InUtf16Le f) _ _ (FoundAny cs) (NoneInAny cs)
-    (subst (λ s. MatchResult c.find-else-comes_first-3.result (λ f. PacketAt (enc16 little_pair) s 2 f.extent.place f.extent.len f.writable) (NoPacket (enc16 little_pair) s 2)) c.new-in_little.ensures c.find-else-comes_first-3.ensures)
+    handed_on c.found_behind-else-comes_first-3.result c.map-else-comes_first-3.result (λ f. InUtf16Le f) _ _ (FoundAny cs) (NoneInAny cs)
+    (subst (λ s. MatchResult c.found_behind-else-comes_first-3.result (λ f. PacketAt (enc16 little_pair) s 2 f.extent.place f.extent.len f.writable) (NoPacket (enc16 little_pair) s 2)) c.new-in_little.ensures c.found_behind-else-comes_first-3.ensures)
     (search rules)
     (λ f p. found cs (each a b l) first utf16le low f.extent.place f.extent.len f.writable p)
     (none cs (each a b l) first utf16le low)

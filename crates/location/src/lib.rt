@@ -49,6 +49,7 @@ fn packet_text(
 }
 
 // The line of a refusal: layer, number and place.
+#[tactic(auto, using(crate::proofs::Told::one_line))]
 pub fn refusal_text(heap: Global, report: Report) -> Result<String, AllocError>
     ensures { IfOk result (λ s. string_bytes s ≡ text_of_refusal report) }
 {

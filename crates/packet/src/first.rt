@@ -7,8 +7,8 @@ use code::TextCode;
 use medium::Medium;
 use text::Text;
 
-// The place of the lowest header, and the place behind it: a pair, which each caller takes apart at once. No character is decoded at a
-// place whose byte cannot begin a header.
+// The place of the lowest header, and the place behind it. (A pair: `comes_first` compares the one, and `found_behind` reads both.) No
+// character is decoded at a place whose byte cannot begin a header.
 pub fn first_header<C: TextCode, M: Medium>(text: &Text<C, M>) -> Option<(usize, usize)>
     ensures first { FirstHeader C.TextCode.enc text.now C.TextCode.unit result }
     ensures inside { IfSome result (λ x. x.0 < 1048576) }
@@ -34,7 +34,7 @@ fn lead_byte<C: TextCode>() -> u8
 }
 
 // The first place from `from` on whose cell holds `b`. This loop goes over all cells and is a function of its own: with a call of
-// `header_at` in it, each turn would load the medium's parts anew, and take half as long again (docs/benchmarks.md).
+// `header_at` in it, each turn would load the medium's parts anew, and take half as long again in UTF-16 (docs/benchmarks.md).
 fn next_byte<M: Medium>(m: &M, from: usize, b: u8) -> Option<usize>
     ensures { NextByte (M.Medium.cells m.now) from b result }
 {

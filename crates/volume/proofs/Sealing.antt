@@ -21,10 +21,10 @@ copied (x ∷ y ∷ []) zero a b c d h = absurd (omega arith)
 copied (x ∷ y ∷ z ∷ []) zero a b c d h = absurd (omega arith)
 
 -- the four bytes of a number, as to_be_bytes gives them
-pub checked-as : (bs : List ℕ) (k n m : ℕ) (r s : List ℕ) → 512 * k + 512 ≤ length bs → s ≡ r → r ≡ (n / 16777216 % 256) ∷ (n / 65536 % 256) ∷ (n / 256 % 256) ∷ (n % 256) ∷ [] → n ≡ m → put_mid (512 * k + 508) (512 * k + 508 + 4 - (512 * k + 508)) bs s ≡ checked bs k m
-checked-as bs k n m r s h t e q =
+pub checked-as : (bs : List ℕ) (k n m : ℕ) (s : List ℕ) → 512 * k + 512 ≤ length bs → s ≡ (n / 16777216 % 256) ∷ (n / 65536 % 256) ∷ (n / 256 % 256) ∷ (n % 256) ∷ [] → n ≡ m → put_mid (512 * k + 508) (512 * k + 508 + 4 - (512 * k + 508)) bs s ≡ checked bs k m
+checked-as bs k n m s h e q =
     let f : 512 * k + 508 + 4 - (512 * k + 508) ≡ 4 = omega arith in
-    ap₂ (λ i ys. put_mid (512 * k + 508) i bs ys) f (t ∙ e) ∙ copied bs (512 * k + 508) _ _ _ _ (omega arith) ∙ ap (λ (x : ℕ). checked bs k x) q
+    ap₂ (λ i ys. put_mid (512 * k + 508) i bs ys) f e ∙ copied bs (512 * k + 508) _ _ _ _ (omega arith) ∙ ap (λ (x : ℕ). checked bs k x) q
 
 -- a place outside the four bytes is as it was
 beside : (bs : List ℕ) (k n q : ℕ) → (q < 512 * k + 508) ⊎ (512 * k + 512 ≤ q) → get_or (checked bs k n) q 0 ≡ get_or bs q 0

@@ -1,4 +1,4 @@
-use Rattle.std.proofs.Common.{◌≡◌, ◌+◌, ◌-◌, ◌*◌, ◌≤◌, length, take, drop, set, ap, ◌∙◌, arith, length-set}
+use Rattle.std.proofs.Common.{◌≡◌, [], ◌∷◌, ◌+◌, ◌-◌, ◌*◌, ◌/◌, ◌%◌, ◌≤◌, length, take, drop, set, ap, ◌∙◌, arith, rules, length-set}
 use Rattle.volume.specs.Blocks.{check_of, data_at}
 use Rattle.volume.specs.Renewed.{sealed}
 use Rattle.volume.proofs.Sealing.{checked-as}
@@ -12,4 +12,6 @@ returns c =
     let t : (s + 508) - s ≡ 508 = omega arith in
     let e : c.weigh.result ≡ check_of (data_at bs c.args.k) = c.weigh.ensures ∙ ap (λ n. check_of (take n (drop s bs))) t in
     let h : s + 512 ≤ length bs = simp length-set (omega arith) in
-    record { renewed = checked-as bs c.args.k _ _ _ _ h c.copy_from_slice.ensures.after c.to_be_bytes-due.ensures e; bound = omega arith }
+    let n = c.weigh.result in
+    let four : c.copy_from_slice.new.self ≡ (n / 16777216 % 256) ∷ (n / 65536 % 256) ∷ (n / 256 % 256) ∷ (n % 256) ∷ [] = search rules in
+    record { renewed = checked-as bs c.args.k n _ _ h four e; bound = omega arith }
